@@ -1,0 +1,27 @@
+pub mod Digits
+pub mod Keys
+pub mod Roots
+pub mod Pulls
+pub mod Signed
+pub mod Parts
+pub mod Ties
+pub mod Walks
+pub mod Swaps
+pub mod Orders
+pub mod Ranges
+mod Samples
+pub mod Members
+pub mod Fronts
+pub mod Owners
+pub mod Worlds
+pub mod Aways
+pub mod Asks
+pub mod Demands
+pub mod Sorts
+pub mod Counts
+pub mod Homes
+pub mod Heights
+pub mod Children
+pub mod Steps
+pub mod Bounds
+pub mod Within

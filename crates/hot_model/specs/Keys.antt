@@ -1,0 +1,58 @@
+-- Keys: 1 followed by octal digits.
+use Rattle.std.specs.Prelude.{ℕ, zero, suc, ◌+◌, ◌-◌, ◌*◌, ◌/◌, ◌%◌, ◌^◌, ◌<◌, ◌≤◌, Bool, cond, eqb, leb, ◌&&◌}
+use Rattle.hot_model.specs.Limits.{fine_bits, max_level}
+use Rattle.hot_model.specs.Values.{BodyValue}
+
+-- bit k of n
+abbrev pub bit : ℕ → ℕ → ℕ
+bit n k = n / 2 ^ k % 2
+
+-- the digit at level l of the place x, y, z
+abbrev pub digit : ℕ → ℕ → ℕ → ℕ → ℕ
+digit x y z l = 4 * bit x (fine_bits - l) + 2 * bit y (fine_bits - l) + bit z (fine_bits - l)
+
+-- 1 followed by the digits of the levels 1 to l
+unfoldable pub key_to : ℕ → ℕ → ℕ → ℕ → ℕ
+key_to zero x y z = 1
+key_to (suc l) x y z = 8 * key_to l x y z + digit x y z (suc l)
+
+-- the key of a place: 1 followed by 21 digits
+abbrev pub place_key : ℕ → ℕ → ℕ → ℕ
+place_key x y z = key_to max_level x y z
+
+-- the key of a body
+abbrev pub key_of_body : BodyValue → ℕ
+key_of_body b = place_key b.x b.y b.z
+
+-- 1 followed by l octal digits
+abbrev pub HasLevel : ℕ → ℕ → Type 0
+HasLevel k l = (8 ^ l ≤ k) × (k < 2 * 8 ^ l)
+
+-- 1 followed by 0 to 21 octal digits
+abbrev pub IsCell : ℕ → Type 0
+IsCell k = (l : ℕ) × (l ≤ max_level) × HasLevel k l
+
+-- how many of the levels 1 to n the number k reaches
+unfoldable pub levels_to : ℕ → ℕ → ℕ
+levels_to zero k = 0
+levels_to (suc n) k = levels_to n k + cond (leb (8 ^ suc n) k) 1 0
+
+-- the number of digits behind the leading 1
+abbrev pub level : ℕ → ℕ
+level k = levels_to max_level k
+
+-- the key begins with the digits of the cell
+abbrev pub covers : ℕ → ℕ → Bool
+covers c k = leb (level c) (level k) && eqb (k / 8 ^ (level k - level c)) c
+
+-- the body's key begins with the digits of the cell
+abbrev pub contains : ℕ → BodyValue → Bool
+contains c b = covers c (key_of_body b)
+
+-- the side of a cell in fine units
+abbrev pub side : ℕ → ℕ
+side c = 2 ^ (fine_bits - level c)
+
+-- the number of levels below a cell
+abbrev pub height : ℕ → ℕ
+height c = max_level - level c

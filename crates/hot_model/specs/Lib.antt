@@ -1,0 +1,15 @@
+pub mod Limits
+pub mod Values
+pub mod Keys
+pub mod Kernel
+pub mod Trees
+pub mod Facts
+pub mod Forces
+pub mod Order
+pub mod World
+pub mod Split
+pub mod Branches
+pub mod Needs
+pub mod Answers
+pub mod Homes
+pub mod Pairs
