@@ -1,0 +1,4 @@
+pub mod Names
+pub mod Slices
+pub mod Pieces
+pub mod Gains
