@@ -1,0 +1,5 @@
+pub mod Ratio
+pub mod Visit
+pub mod Laws
+pub mod Tried
+pub mod Additions

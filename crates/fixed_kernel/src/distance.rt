@@ -1,0 +1,30 @@
+// Squared distances of places.
+ghost use Rattle.std.specs.Prelude.{◌≡◌, ◌≤◌, ◌<◌, ◌^◌, ◌*◌};
+ghost use Rattle.hot_model.specs.Limits.{fine_bits};
+ghost use Rattle.hot_model.specs.Kernel as kernel;
+ghost use Rattle.hot_model.specs.Kernel.{point_at, InCube};
+
+/// The square of how far two coordinates are apart.
+#[tactic(auto, using(crate::proofs::Hints::on_along))]
+#[inline(always)]
+fn gap2(p: u32, c: u32) -> u64
+    requires p_in { p < 2 ^ fine_bits }
+    requires c_in { c < 2 ^ fine_bits }
+    ensures value { result ≡ kernel.square (kernel.apart p c) }
+    ensures within { result ≤ 2 ^ 58 }
+{
+    let gap = u64::from(p.abs_diff(c));
+    gap * gap
+}
+
+/// The squared distance of two places.
+#[tactic(auto, using(crate::proofs::Hints::on_distance))]
+#[inline(always)]
+pub(crate) fn distance2(p: [u32; 3], c: [u32; 3]) -> u64
+    requires p_in { InCube p }
+    requires c_in { InCube c }
+    ensures value { result ≡ kernel.distance2 (point_at p) (point_at c) }
+    ensures within { result ≤ 3 * 2 ^ 58 }
+{
+    gap2(p[0], c[0]) + gap2(p[1], c[1]) + gap2(p[2], c[2])
+}

@@ -1,0 +1,23 @@
+//! The kernel of gravity in whole numbers: roots, centres, the pull of a mass, the opening test, and the visit that adds
+//! pulls up. Nothing here takes memory. Roots, centres and the sizes of pulls are rounded down.
+#![tactic(auto)]
+
+mod distance;
+mod floats;
+mod laws;
+mod opening;
+mod pulls;
+mod ratio;
+mod roots;
+mod softening;
+#[cfg(test)]
+mod tests;
+mod visit;
+
+pub use laws::forces_by_terms;
+pub use opening::{accepts, centre};
+pub use pulls::pull;
+pub use ratio::Ratio;
+pub use roots::root;
+pub use softening::Eps;
+pub use visit::ForceVisit;
