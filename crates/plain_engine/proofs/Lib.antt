@@ -1,0 +1,4 @@
+pub mod Hints
+pub mod Answer
+pub mod Rows
+pub mod Below

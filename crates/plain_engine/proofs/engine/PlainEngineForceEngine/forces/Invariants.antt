@@ -1,0 +1,7 @@
+use Rattle.std.proofs.Common.{◌≡◌, take, map}
+use Rattle.hot_model.specs.Trees.{mass_of, force}
+use Rattle.hot_model.specs.Forces.{whole}
+use Rattle.plain_engine.proofs.engine.PlainEngineForceEngine.forces.Given as goal
+
+abbrev pub invariant-loop-b : goal.invariant-loop-b
+invariant-loop-b l = l.answers.items ≡ map (λ b. whole (mass_of l.bodies) (force l.fn.self l.bodies b)) (take l.b-index l.bodies)

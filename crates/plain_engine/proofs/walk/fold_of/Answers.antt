@@ -1,0 +1,17 @@
+use Rattle.std.proofs.Common.{◌≡◌, arith, ap, sym}
+use Rattle.hot_model.specs.Keys.{height}
+use Rattle.hot_model.specs.Trees.{mass_of}
+use Rattle.hot_model.proofs.Parts.{inside-root}
+use Rattle.hot_model.proofs.Fronts.{root_level}
+use Rattle.hot_model.proofs.Heights.{height_is}
+use Rattle.plain_engine.proofs.walk.fold_of.Goals as goal
+
+pub walk-requires-clause-room : goal.walk-requires-clause-room
+walk-requires-clause-room g c κs within =
+    omega (arith, c.zero-acc.ensures.none, c.requires.light, ap mass_of (inside-root c.args.bodies.now))
+
+pub returns : goal.returns
+returns g c =
+    let e : height 1 ≡ 21 = height_is 1 0 (omega arith) root_level in
+    let a = c.in_ok-walk.ensures.value in
+    record { fold = rw (sym c.zero-acc.ensures.value, sym e) a }
