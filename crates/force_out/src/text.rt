@@ -1,0 +1,162 @@
+// Forces as text.
+ghost use Rattle.std.specs.Prelude.{◌≡◌, ◌∷◌, [], length, All};
+ghost use Rattle.hot_io.specs.Faults.{FailsExactly};
+ghost use Rattle.hot_io.specs.Writing.{Writes};
+ghost use Rattle.force_out.specs.Idents.{IsIdent};
+ghost use Rattle.force_out.specs.ForcesText.{number_line, body_lines, last_line, forces_text};
+
+use hot_io::{Failed, Sink, write_all, write_pieces};
+use hot_model::Acc3;
+use itoa::Buffer;
+
+/// Writes the line of one body: its ident and the three components, with a space between each two.
+fn body_line<O: Sink>(out: &mut O, ident: i128, force: &Acc3) -> Result<(), Failed>
+    requires unfailed { O.faults out.old ≡ 0 }
+    ensures cause { FailsExactly (O.faults out.old) (O.faults out.new) result }
+    ensures text { Writes (O.written out.old) (O.written out.new) result
+        (number_line (ident ∷ force.now.ax ∷ force.now.ay ∷ force.now.az ∷ [])) }
+{
+    let (mut name, mut x, mut y, mut z) = (
+        Buffer::new(),
+        Buffer::new(),
+        Buffer::new(),
+        Buffer::new(),
+    );
+    write_pieces(
+        out,
+        &[
+            name.format(ident).as_bytes(),
+            b" ",
+            x.format(force.ax).as_bytes(),
+            b" ",
+            y.format(force.ay).as_bytes(),
+            b" ",
+            z.format(force.az).as_bytes(),
+            b"\n",
+        ],
+    )
+}
+
+/// Writes the lines of the bodies, in the order of the slices.
+fn all_lines<O: Sink>(out: &mut O, idents: &[i128], forces: &[Acc3]) -> Result<(), Failed>
+    requires unfailed { O.faults out.old ≡ 0 }
+    requires paired { length idents.now ≡ length forces.now }
+    ensures cause { FailsExactly (O.faults out.old) (O.faults out.new) result }
+    ensures text { Writes (O.written out.old) (O.written out.new) result (body_lines idents.now forces.now) }
+{
+    for (i, force) in forces.iter().enumerate() {
+        body_line(out, idents[i], force)?;
+    }
+    Ok(())
+}
+
+/// Writes the last line, which has the number of bodies.
+fn end_line<O: Sink>(out: &mut O, count: usize) -> Result<(), Failed>
+    requires unfailed { O.faults out.old ≡ 0 }
+    ensures cause { FailsExactly (O.faults out.old) (O.faults out.new) result }
+    ensures text { Writes (O.written out.old) (O.written out.new) result (last_line count) }
+{
+    let mut number = Buffer::new();
+    write_pieces(out, &[b"# end ", number.format(count).as_bytes(), b"\n"])
+}
+
+/// Writes the forces on the bodies as text: the line `# hot forces 1`, then for each body, in the order of the slices,
+/// the line `IDENT AX AY AZ`, and last the line `# end N` with the number of bodies.
+///
+/// Numbers are decimal, without leading zeros, with `-` where they are negative. A component is in units of 2^-40 of
+/// mass over squared fine distance. `Failed` comes exactly where the sink's count of faults rises, and then a front of
+/// the text was written. No memory is taken, and the sink gets no empty piece.
+pub fn force_text<O: Sink>(out: &mut O, idents: &[i128], forces: &[Acc3]) -> Result<(), Failed>
+    requires unfailed { O.faults out.old ≡ 0 }
+    requires paired { length idents.now ≡ length forces.now }
+    requires idents { All IsIdent idents.now }
+    ensures cause { FailsExactly (O.faults out.old) (O.faults out.new) result }
+    ensures text { Writes (O.written out.old) (O.written out.new) result (forces_text idents.now forces.now) }
+{
+    write_all(out, b"# hot forces 1\n")?;
+    all_lines(out, idents, forces)?;
+    end_line(out, forces.len())
+}
+
+#[cfg(test)]
+mod tests {
+    use super::*;
+    use hot_io::MemSink;
+    use std::test::Fail;
+
+    #[derive(Drop)]
+    struct Case<'a> {
+        idents: &'a [i128],
+        forces: &'a [Acc3],
+        chunk: usize,
+        room: u64,
+        written: &'a [u8],
+        fails: bool,
+    }
+
+    const NOTHING: Acc3 = Acc3 {
+        seen: 0,
+        ax: 0,
+        ay: 0,
+        az: 0,
+    };
+
+    const PULLED: Acc3 = Acc3 {
+        seen: 3,
+        ax: -3145725,
+        ay: 0,
+        az: 1048575,
+    };
+
+    const FARTHEST: Acc3 = Acc3 {
+        seen: 1,
+        ax: 10,
+        ay: -1099511627776,
+        az: 1099511627776,
+    };
+
+    #[test]
+    fn worked_texts(rt: HostRuntime) -> Result<(), Fail> {
+        let cases = [
+            Case {
+                idents: &[],
+                forces: &[],
+                chunk: 1,
+                room: 100,
+                written: b"# hot forces 1\n# end 0\n",
+                fails: false,
+            },
+            Case {
+                idents: &[0],
+                forces: &[NOTHING],
+                chunk: 3,
+                room: 100,
+                written: b"# hot forces 1\n0 0 0 0\n# end 1\n",
+                fails: false,
+            },
+            Case {
+                idents: &[-9223372036854775808, 18446744073709551615],
+                forces: &[PULLED, FARTHEST],
+                chunk: 7,
+                room: 200,
+                written: b"# hot forces 1\n-9223372036854775808 -3145725 0 1048575\n18446744073709551615 10 -1099511627776 1099511627776\n# end 2\n",
+                fails: false,
+            },
+            Case {
+                idents: &[7, 8],
+                forces: &[PULLED, NOTHING],
+                chunk: 64,
+                room: 20,
+                written: b"# hot forces 1\n7 -31",
+                fails: true,
+            },
+        ];
+        for case in &cases {
+            let mut out = MemSink::new(rt.alloc(), case.chunk, case.room)?;
+            let outcome = force_text(&mut out, case.idents, case.forces);
+            assert_eq!(rt; outcome.is_err(), case.fails);
+            assert_eq!(rt; out.written(), case.written);
+        }
+        Ok(())
+    }
+}
