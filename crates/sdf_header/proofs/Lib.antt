@@ -1,0 +1,9 @@
+pub mod Numbers
+pub mod Blanks
+pub mod Items
+pub mod Lines
+pub mod Statements
+pub mod Advances
+pub mod Bytes
+pub mod Known
+pub mod MadeHeader

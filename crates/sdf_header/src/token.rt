@@ -1,0 +1,167 @@
+//! The next token of a text.
+
+ghost use Rattle.std.specs.Prelude.{◌≡◌, length, suc, IfOk, IfSome, ◌≤◌, ◌<◌};
+ghost use Rattle.sdf_header.specs.Numbers.{sees_rest};
+ghost use Rattle.sdf_header.specs.Tokens.{Is, lex_of, is_blank, begins_word, is_sign, behind_close, blank_at, past_blanks, behind_text, token_at, next, fault_at, syntax_at, Advances};
+
+use crate::fault::{Fault, FaultKind};
+use crate::limits::MAX_TEXT_BYTES;
+use crate::number::{Class, begins_with, number, run};
+
+#[derive(Clone, Copy, Debug)]
+pub enum Token<'a> {
+    Word(&'a [u8]),
+    /// A number, with its value where it is whole.
+    Number(Option<i128>),
+    Text,
+    Sign(u8),
+    End,
+}
+
+/// A token, the text from its first byte on, and the text behind it.
+#[derive(Clone, Copy, Debug)]
+pub struct Lexed<'a> {
+    pub token: Token<'a>,
+    pub start: &'a [u8],
+    pub rest: &'a [u8],
+}
+
+fn is_blank(byte: u8) -> bool
+    ensures { result ≡ is_blank byte }
+{
+    matches!(byte, b' ' | b'\t' | b'\r' | b'\n' | 12)
+}
+
+fn begins_word(byte: u8) -> bool
+    ensures { result ≡ begins_word byte }
+{
+    byte.is_ascii_alphabetic() || byte == b'_'
+}
+
+fn is_sign(byte: u8) -> bool
+    ensures { result ≡ is_sign byte }
+{
+    matches!(byte, b'{' | b'}' | b'[' | b']' | b';' | b'=' | b',')
+}
+
+/// A fault at the first of these bytes, which are left from its place on.
+pub fn fault_at(kind: FaultKind, bytes: &[u8]) -> Fault
+    ensures { result ≡ fault_at kind bytes.now }
+{
+    Fault {
+        kind,
+        left: bytes.len(),
+    }
+}
+
+pub fn syntax_at(bytes: &[u8]) -> Fault
+    ensures { result ≡ syntax_at bytes.now }
+{
+    fault_at(FaultKind::Syntax, bytes)
+}
+
+/// What is behind the first `*/`.
+#[tactic(auto, unfolding(crate::specs::Tokens::behind_close))]
+fn behind_close(bytes: &[u8]) -> Option<&[u8]>
+    ensures exact { sees_rest result ≡ behind_close bytes.now }
+    ensures shorter { IfSome result (λ rest. length rest.now ≤ length bytes.now) }
+{
+    let mut rest = bytes;
+    loop {
+        match rest {
+            [] => return None,
+            [b'*', b'/', behind @ ..] => return Some(behind),
+            [_, behind @ ..] => rest = behind,
+        }
+    }
+}
+
+/// What is behind the blank or comment at the front, if there is one.
+#[tactic(auto, unfolding(crate::specs::Tokens::blank_at))]
+fn blank_at(bytes: &[u8]) -> Result<Option<&[u8]>, Fault>
+    ensures exact { Is sees_rest result (blank_at bytes.now) }
+    ensures shorter { IfOk result (λ found. IfSome found (λ rest. length rest.now < length bytes.now)) }
+{
+    let [first, behind @ ..] = bytes else {
+        return Ok(None);
+    };
+    if is_blank(*first) {
+        return Ok(Some(behind));
+    }
+    if *first == b'#' {
+        return Ok(Some(run(Class::Line, behind).1));
+    }
+    if *first == b'/' && begins_with(b'*', behind) {
+        return match behind_close(&behind[1..]) {
+            Some(rest) => Ok(Some(rest)),
+            None => Err(syntax_at(bytes)),
+        };
+    }
+    Ok(None)
+}
+
+/// What is behind all blanks and comments.
+#[tactic(auto, using(crate::proofs::Blanks::start, crate::proofs::Blanks::more, crate::proofs::Blanks::done, crate::proofs::Blanks::stopped))]
+fn past_blanks(bytes: &[u8]) -> Result<&[u8], Fault>
+    ensures exact { Is (λ rest. rest.now) result (past_blanks (suc (length bytes.now)) bytes.now) }
+    ensures shorter { IfOk result (λ rest. length rest.now ≤ length bytes.now) }
+{
+    let mut rest = bytes;
+    while let Some(behind) = blank_at(rest)? {
+        rest = behind;
+    }
+    Ok(rest)
+}
+
+#[tactic(auto, unfolding(crate::specs::Tokens::behind_text))]
+fn behind_text(bytes: &[u8]) -> Option<&[u8]>
+    ensures exact { sees_rest result ≡ behind_text bytes.now }
+    ensures shorter { IfSome result (λ rest. length rest.now ≤ length bytes.now) }
+{
+    let (text, rest) = run(Class::Text, bytes);
+    match rest {
+        [b'"', behind @ ..] if text.len() <= MAX_TEXT_BYTES => Some(behind),
+        _ => None,
+    }
+}
+
+#[tactic(auto, unfolding(crate::specs::Tokens::token_at))]
+fn token_at(start: &[u8]) -> Result<Lexed<'_>, Fault>
+    ensures exact { Is lex_of result (token_at start.now) }
+    ensures shorter { IfOk result (λ l. Advances l.token (length l.rest.now) (length start.now)) }
+{
+    let [byte, behind @ ..] = start else {
+        return Ok(Lexed {
+            token: Token::End,
+            start,
+            rest: start,
+        });
+    };
+    let byte = *byte;
+    let (token, rest) = if begins_word(byte) {
+        let (word, rest) = run(Class::Word, start);
+        (Token::Word(word), rest)
+    } else if is_sign(byte) {
+        (Token::Sign(byte), behind)
+    } else if byte == b'"' {
+        let Some(rest) = behind_text(behind) else {
+            return Err(syntax_at(start));
+        };
+        (Token::Text, rest)
+    } else {
+        let Some((value, rest)) = number(start) else {
+            return Err(syntax_at(start));
+        };
+        (Token::Number(value), rest)
+    };
+    Ok(Lexed { token, start, rest })
+}
+
+/// The next token, behind blanks and comments.
+#[tactic(auto, unfolding(crate::specs::Tokens::next))]
+pub fn next(bytes: &[u8]) -> Result<Lexed<'_>, Fault>
+    ensures exact { Is lex_of result (next bytes.now) }
+    ensures shorter { IfOk result (λ l. Advances l.token (length l.rest.now) (length bytes.now)) }
+{
+    token_at(past_blanks(bytes)?)
+}
