@@ -1,0 +1,4 @@
+pub mod Numbers
+pub mod KeyLaws
+pub mod Places
+pub mod Hints

@@ -1,0 +1,5 @@
+use Rattle.morton_key.proofs.KeyLaws.{one_level_each}
+use Rattle.morton_key.proofs.laws.one_level_each.Goals as goal
+
+pub returns : goal.returns
+returns c = record { law = one_level_each }
