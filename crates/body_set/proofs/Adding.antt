@@ -1,0 +1,40 @@
+-- Rows that are added one by one.
+use Rattle.std.proofs.Common.{ℕ, suc, ℤ, ◌≡◌, ◌+◌, List, [], ◌∷◌, ◌++◌, length, refl, ap, sym, arith}
+use Rattle.std.proofs.lemmas.List.{map-append}
+use Rattle.hot_model.specs.Values.{BodyValue, CubeValue}
+use Rattle.sdf_rows.specs.declared.raw_row.RawRow.{RawRow}
+use Rattle.body_set.specs.Rows.{body_of_row, weight_of_row}
+use Rattle.body_set.specs.Sets.{SetValue, bodies_from, set_of_rows, with_row, empty_set}
+use Rattle.body_set.specs.Laws as laws
+
+bodies-length : (cube : CubeValue) (k : ℕ) (raws : List RawRow) → length (bodies_from cube k raws) ≡ length raws
+unfolding bodies_from
+bodies-length cube k [] = refl
+bodies-length cube k (raw ∷ raws) = ap suc (bodies-length cube (suc k) raws)
+
+bodies-append : (cube : CubeValue) (k : ℕ) (raws : List RawRow) (raw : RawRow) → bodies_from cube k (raws ++ raw ∷ []) ≡ bodies_from cube k raws ++ body_of_row cube (k + length raws) raw ∷ []
+unfolding bodies_from
+bodies-append cube k [] raw = let e : k + 0 ≡ k = omega arith in rw e refl
+bodies-append cube k (x ∷ raws) raw =
+    let e : k + suc (length raws) ≡ suc k + length raws = omega arith in
+    rw (e, bodies-append cube (suc k) raws raw) refl
+
+abbrev set_of : CubeValue → List BodyValue → List ℤ → List ℕ → SetValue
+set_of cube a c e = record { cube = cube; bodies = a; idents = c; weights = e }
+
+same_set : (cube : CubeValue) (a b : List BodyValue) (c d : List ℤ) (e f : List ℕ) → a ≡ b → c ≡ d → e ≡ f → set_of cube a c e ≡ set_of cube b d f
+same_set cube a b c d e f p q r = rw (p, q, r) refl
+
+one_more : (cube : CubeValue) (raws : List RawRow) (raw : RawRow) → with_row (set_of_rows cube raws) raw ≡ set_of_rows cube (raws ++ raw ∷ [])
+one_more cube raws raw =
+    let e : length (bodies_from cube 0 raws) ≡ 0 + length raws = omega (arith, bodies-length cube 0 raws) in
+    let a : bodies_from cube 0 raws ++ body_of_row cube (length (bodies_from cube 0 raws)) raw ∷ [] ≡ bodies_from cube 0 (raws ++ raw ∷ []) =
+    rw (e, bodies-append cube 0 raws raw) refl in
+    same_set cube _ _ _ _ _ _ a (sym (map-append (λ r. r.ident) raws (raw ∷ []))) (sym (map-append weight_of_row raws (raw ∷ [])))
+
+none : (cube : CubeValue) → set_of_rows cube [] ≡ empty_set cube
+unfolding bodies_from
+none cube = refl
+
+pub rows_add_up : laws.RowsAddUp
+rows_add_up = record { none = none; one_more = one_more }

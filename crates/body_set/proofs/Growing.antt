@@ -1,0 +1,28 @@
+-- A set that grows by a row.
+use Rattle.std.proofs.Common.{ℕ, ℤ, ◌≡◌, ◌<◌, List, [], ◌∷◌, ◌++◌, length, inl, inr, arith, length-append}
+use Rattle.std.proofs.lemmas.Bool.{cases_lt}
+use Rattle.std.proofs.lemmas.List.{get_or_append_left, get_or_push}
+use Rattle.std.proofs.lemmas.List.Elements.{All-push}
+use Rattle.hot_model.specs.Limits.{max_bodies}
+use Rattle.hot_model.specs.Values.{BodyValue}
+use Rattle.hot_model.specs.Forces.{RowsCount}
+use Rattle.hot_model.specs.World.{IsBody}
+use Rattle.body_set.specs.Sets.{IsSet}
+
+rows_more : (xs : List BodyValue) (b : BodyValue) → RowsCount xs → b.row ≡ length xs → RowsCount (xs ++ b ∷ [])
+rows_more xs b h e i d k =
+    elim (cases_lt i (length xs)) [
+      | inl p ↦ rw (get_or_append_left xs (b ∷ []) d i p) (h i d p)
+      | inr p ↦ let q : i ≡ length xs = omega (arith, length-append xs (b ∷ [])) in rw (q, get_or_push) e
+    ]
+
+pub grown_set : (xs : List BodyValue) (idents : List ℤ) (weights : List ℕ) (b : BodyValue) (ident : ℤ) (weight : ℕ) → IsSet xs idents weights → IsBody b → b.row ≡ length xs → length xs < max_bodies → IsSet (xs ++ b ∷ []) (idents ++ ident ∷ []) (weights ++ weight ∷ [])
+grown_set xs idents weights b ident weight s i e h =
+    let n = length-append xs (b ∷ []) in
+    record {
+      sound = All-push IsBody xs b s.sound i;
+      rows = rows_more xs b s.rows e;
+      few = omega (arith, n);
+      idents_too = omega (arith, n, length-append idents (ident ∷ []), s.idents_too);
+      weights_too = omega (arith, n, length-append weights (weight ∷ []), s.weights_too);
+    }

@@ -1,0 +1,10 @@
+-- The laws of sets.
+use Rattle.std.specs.Prelude.{◌≡◌, List, ◌∷◌, [], ◌++◌}
+use Rattle.hot_model.specs.Values.{CubeValue}
+use Rattle.sdf_rows.specs.declared.raw_row.RawRow.{RawRow}
+use Rattle.body_set.specs.Sets.{set_of_rows, empty_set, with_row}
+
+-- a set to which rows are added one by one is the set of the list of these rows
+pub record RowsAddUp : Type 0 where
+  pub none : (cube : CubeValue) → set_of_rows cube [] ≡ empty_set cube
+  pub one_more : (cube : CubeValue) (raws : List RawRow) (raw : RawRow) → with_row (set_of_rows cube raws) raw ≡ set_of_rows cube (raws ++ raw ∷ [])

@@ -1,0 +1,52 @@
+-- What a row gives, and what may be wrong with it.
+use Rattle.std.specs.Prelude.{ℕ, ◌*◌, ◌-◌, ◌^◌, ℤ, pos, ◌+ℤ◌, ◌-ℤ◌, nat_abs, int_lt, int_le, Bool, ◌&&◌, if◌then◌else◌, nat_lt, List, [], ◌∷◌, ◌++◌, Option, slice_get}
+use Rattle.hot_model.specs.declared.cube.Axis.TheVariants.{X, Y, Z}
+use Rattle.hot_model.specs.Limits.{fine_bits, max_bodies, max_body_mass, max_work}
+use Rattle.hot_model.specs.Values.{BodyValue, CubeValue}
+use Rattle.sdf_rows.specs.declared.raw_row.RawRow.{RawRow}
+use Rattle.body_set.specs.declared.fault.PushError.{PushError}
+use Rattle.body_set.specs.declared.fault.PushError.TheVariants.{TooMany, Outside, MassRange, WorkRange}
+
+-- the number is one of those from the first to the last
+abbrev pub is_between : ℤ → ℤ → ℤ → Bool
+is_between first last n = int_le first n && int_le n last
+
+-- the coordinate is in the cube: at most 2^bits - 1 above the corner
+abbrev pub is_inside : ℕ → ℤ → ℤ → Bool
+is_inside bits corner n = int_le corner n && int_lt n (corner +ℤ pos (2 ^ bits))
+
+-- a coordinate of the file in fine units
+abbrev pub fine : ℕ → ℤ → ℤ → ℕ
+fine bits corner n = nat_abs (n -ℤ corner) * 2 ^ (fine_bits - bits)
+
+-- the body that row k gives
+abbrev pub body_of_row : CubeValue → ℕ → RawRow → BodyValue
+body_of_row cube k raw = record {
+  x = fine cube.bits cube.x0 raw.x;
+  y = fine cube.bits cube.y0 raw.y;
+  z = fine cube.bits cube.z0 raw.z;
+  mass = nat_abs raw.mass;
+  row = k;
+}
+
+-- the work weight that a row gives
+abbrev pub weight_of_row : RawRow → ℕ
+weight_of_row raw = nat_abs raw.work
+
+-- the fault, where the test fails
+abbrev pub unless : Bool → PushError → List PushError
+unless good fault = if good then [] else fault ∷ []
+
+-- all that is wrong with row k, by rank: too many rows, the place on x, y and z, the mass, the work
+abbrev pub faults : CubeValue → ℕ → RawRow → List PushError
+faults cube k raw =
+    unless (nat_lt k max_bodies) TooMany
+    ++ unless (is_inside cube.bits cube.x0 raw.x) (Outside k X)
+    ++ unless (is_inside cube.bits cube.y0 raw.y) (Outside k Y)
+    ++ unless (is_inside cube.bits cube.z0 raw.z) (Outside k Z)
+    ++ unless (is_between (pos 1) (pos max_body_mass) raw.mass) (MassRange k)
+    ++ unless (is_between (pos 0) (pos max_work) raw.work) (WorkRange k)
+
+-- what row k is refused for: the first that is wrong with it
+abbrev pub first_fault : CubeValue → ℕ → RawRow → Option PushError
+first_fault cube k raw = slice_get (faults cube k raw) 0
