@@ -1,0 +1,11 @@
+pub mod WordNumbers
+pub mod NarrowFiles
+pub mod FileRows
+pub mod Inputs
+pub mod Deliveries
+pub mod WordLists
+pub mod FileBodies
+pub mod Outcomes
+pub mod Verdicts
+pub mod CallEndings
+pub mod ToldFiles

@@ -1,0 +1,10 @@
+pub mod Statuses
+pub mod Numbers
+pub mod Words
+pub mod Rows
+pub mod Narrow
+pub mod Input
+pub mod Texts
+pub mod Call
+pub mod Prepared
+pub mod Endings
