@@ -12,12 +12,13 @@ use Rattle.hot_model.specs.declared.list.Answer.TheVariants.{Children}
 use Rattle.hot_model.proofs.Heights.{has_children, height_is, flat_same}
 use Rattle.hot_model.specs.Homes.{keeps_out, is_home, is_home_branch, home_branches}
 use Rattle.hot_model.proofs.Members.{have_digits, head_has, tail_has, nil_has, cons_cases, all_members, filter_has, has_filter, map_has, has_map, has_length, some_member}
-use Rattle.hot_model.proofs.Fronts.{contains_front, front_contains, parent_level, parent-covers, level_zero}
+use Rattle.hot_model.proofs.Fronts.{and_both, contains_front, front_contains, parent_level, parent-covers, level_zero}
 use Rattle.hot_model.proofs.Owners.{covered_own, inside_has, has_inside, test_own, test_other, rank_in_own, covered_has}
-use Rattle.hot_model.proofs.Asks.{child_covers, some_length, full_length}
+use Rattle.hot_model.proofs.Asks.{child_covers}
+use Rattle.hot_model.proofs.Walks.{some_length, full_length}
 use Rattle.hot_model.proofs.Worlds.{div_rises, piece_in_order}
 use Rattle.hot_model.proofs.Sorts.{Ascends, above_member, ascends_filter}
-use Rattle.hot_model.proofs.Counts.{cells-are, cells_ascend, branches-are, branches_ascend}
+use Rattle.hot_model.proofs.Counts.{not_true, cells-are, cells_ascend, branches-are, branches_ascend}
 
 -- two lists that ascend and have the same members are one
 pub ascends_same : (xs ys : List ℕ) → Ascends xs → Ascends ys → ((k : ℕ) → Contains xs k → Contains ys k) → ((k : ℕ) → Contains ys k → Contains xs k) → xs ≡ ys
@@ -208,15 +209,6 @@ own_keeps_out w q c (Some m) a f = by_test (covers c m) refl
 kept_out : (c m : ℕ) (o : Option ℕ) → keeps_out c o ≡ true → o ≡ Some m → covers c m ≡ true → ⊥
 kept_out c m o h e f = let g : keeps_out c (Some m) ≡ true = subst (λ (z : Option ℕ). keeps_out c z ≡ true) e h in let k : false ≡ true = rw f at g in cc
 
-and_both : (a b : Bool) → (a && b) ≡ true → (a ≡ true) × (b ≡ true)
-and_both true true h = (refl, refl)
-and_both true false h = absurd (let e : false ≡ true = h in cc)
-and_both false b h = absurd (let e : false ≡ true = h in cc)
-
-not_is : (a : Bool) → not a ≡ true → a ≡ false
-not_is true h = absurd (let e : false ≡ true = h in cc)
-not_is false h = refl
-
 -- a cell is home exactly where it has bodies, all of this rank
 pub home-is-own : (w : World) (q c : ℕ) → IsGood w → IsCell c → (is_home (piece w q) (left_of w q) (right_of w q) c ≡ true) ↔ ((0 < length (bodies_in w c)) × IsOfRank w q c)
 home-is-own w q c g i = (to, from)
@@ -228,7 +220,7 @@ home-is-own w q c g i = (to, from)
     to h =
         let t = and_both (not (is_empty (inside (piece w q) c))) (keeps_out c (left_of w q) && keeps_out c (right_of w q)) h in
         let u = and_both (keeps_out c (left_of w q)) (keeps_out c (right_of w q)) t.1 in
-        let m = some_member (inside (piece w q) c) (some_length (inside (piece w q) c) (not_is (is_empty (inside (piece w q) c)) t.0)) in
+        let m = some_member (inside (piece w q) c) (some_length (inside (piece w q) c) (not_true (is_empty (inside (piece w q) c)) t.0)) in
         let x = has_inside (piece w q) c m.0 m.1 in
         let y = in_piece m.0 x.0 in
         let here : Contains (bodies_in w c) m.0 = inside_has w.bodies c m.0 y.0 x.1 in (
@@ -311,7 +303,7 @@ home_branch w q k g i h =
             let m = some_member (bodies_in w k) s in
             let up : Contains (bodies_in w (parent k)) m.0 = covered_has w (parent k) k m.0 j (suc l, n, p) (parent-covers k l n p) m.1 in
             let y = (home-is-own w q (parent k) g j).1 (has_length (bodies_in w (parent k)) m.0 up, test_own w q (bodies_in w (parent k)) f) in
-            absurd (let z : is_home (piece w q) (left_of w q) (right_of w q) (parent k) ≡ false = not_is (is_home (piece w q) (left_of w q) (right_of w q) (parent k)) e in let x : true ≡ false = sym y ∙ z in cc)
+            absurd (let z : is_home (piece w q) (left_of w q) (right_of w q) (parent k) ≡ false = not_true (is_home (piece w q) (left_of w q) (right_of w q) (parent k)) e in let x : true ≡ false = sym y ∙ z in cc)
 
 pub branch_home : (w : World) (q k : ℕ) → IsGood w → IsBranch w q k → is_home_branch (piece w q) (left_of w q) (right_of w q) k ≡ true
 branch_home w q k g b = by_level b.cell.0 b.cell.1 b.cell.2

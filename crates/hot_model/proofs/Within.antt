@@ -2,18 +2,12 @@
 use Rattle.std.proofs.Common.{ℕ, zero, suc, ◌≡◌, ◌-◌, ◌<◌, ◌≤◌, Bool, true, false, List, [], ◌∷◌, sym, refl, ap, ◌∙◌, subst, arith}
 use Rattle.hot_model.specs.Values.{BodyValue, CellValue}
 use Rattle.hot_model.specs.Keys.{HasLevel, IsCell, covers, contains}
-use Rattle.hot_model.specs.Branches.{parent}
 use Rattle.hot_model.specs.Trees.{inside, child, digits, terms_in}
 use Rattle.hot_model.proofs.Parts.{child-level}
-use Rattle.hot_model.proofs.Fronts.{covers-contains, covers-trans, parent_of_child, parent-covers}
+use Rattle.hot_model.proofs.Fronts.{covers-contains, covers-trans}
+use Rattle.hot_model.proofs.Asks.{child_covers}
 use Rattle.hot_model.proofs.Heights.{flat_same}
 use Rattle.hot_model.proofs.Members.{have_digits}
-
--- a cell covers its children
-pub covers-child : (c d l : ℕ) → suc l ≤ 21 → HasLevel c l → d < 8 → covers c (child c d) ≡ true
-covers-child c d l h p m =
-    let e : parent (child c d) ≡ c = parent_of_child c d m in
-    subst (λ (k : ℕ). covers k (child c d) ≡ true) e (parent-covers (child c d) l h (child-level c l d p m))
 
 -- the bodies of a cell among those of a cell that covers it
 pub inside-within : (bodies : List BodyValue) (c k : ℕ) → IsCell c → IsCell k → covers c k ≡ true → inside (inside bodies c) k ≡ inside bodies k
@@ -38,6 +32,6 @@ terms-within opens leaf bodies c (suc deep) k i h p s =
     let below = flat_same (λ (d : ℕ). terms_in opens leaf (inside bodies c) deep (child k d)) (λ (d : ℕ). terms_in opens leaf bodies deep (child k d)) digits (λ d m.
     let b : d < 8 = have_digits d m in
     let l : HasLevel (child k d) (21 - deep) = subst (λ (l : ℕ). HasLevel (child k d) l) n (child-level k (21 - suc deep) d p b) in
-    let t : covers c (child k d) ≡ true = covers-trans c k (child k d) i (21 - suc deep, omega arith, p) (21 - deep, omega arith, l) s (covers-child k d (21 - suc deep) (omega arith) p b) in
+    let t : covers c (child k d) ≡ true = covers-trans c k (child k d) i (21 - suc deep, omega arith, p) (21 - deep, omega arith, l) s (child_covers k d (21 - suc deep) (omega arith) p b) in
     terms-within opens leaf bodies c deep (child k d) i (omega arith) l t) in
     rw (e, below) refl

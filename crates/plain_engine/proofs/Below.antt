@@ -5,7 +5,8 @@ use Rattle.hot_model.specs.Keys.{HasLevel, IsCell, height}
 use Rattle.hot_model.specs.Trees.{inside, child, terms_in, terms_of}
 use Rattle.hot_model.proofs.Fronts.{child_cell, height_child}
 use Rattle.hot_model.proofs.Heights.{height_le, height_level}
-use Rattle.hot_model.proofs.Within.{covers-child, inside-within, terms-within}
+use Rattle.hot_model.proofs.Asks.{child_covers}
+use Rattle.hot_model.proofs.Within.{inside-within, terms-within}
 
 -- a cell that is not of the last level, and one of its children
 pub record HasChild (c d : ℕ) : Type 0 where
@@ -24,13 +25,13 @@ pub child-terms : (opens : CellValue → _) (leaf : ℕ) (bodies : List BodyValu
 child-terms opens leaf bodies c d i h m =
     let k = has_child c d i h m in
     let e : height (child c d) ≡ height c - 1 = omega (arith, k.lower) in
-    terms-within opens leaf bodies c (height (child c d)) (child c d) i (height_le (child c d)) (height_level (child c d) k.cell) (covers-child c d (21 - height c) k.upper k.covered m)
+    terms-within opens leaf bodies c (height (child c d)) (child c d) i (height_le (child c d)) (height_level (child c d) k.cell) (child_covers c d (21 - height c) k.upper k.covered m)
     ∙ ap (λ (n : ℕ). terms_in opens leaf bodies n (child c d)) e
 
 pub child-bodies : (bodies : List BodyValue) (c d : ℕ) → IsCell c → 0 < height c → d < 8 → inside (inside bodies c) (child c d) ≡ inside bodies (child c d)
 child-bodies bodies c d i h m =
     let k = has_child c d i h m in
-    inside-within bodies c (child c d) i k.cell (covers-child c d (21 - height c) k.upper k.covered m)
+    inside-within bodies c (child c d) i k.cell (child_covers c d (21 - height c) k.upper k.covered m)
 
 pub child-lower : (c d : ℕ) → IsCell c → 0 < height c → d < 8 → height (8 * c + d) < height c
 child-lower c d i h m = omega (arith, (has_child c d i h m).lower)

@@ -2,6 +2,7 @@
 use Rattle.std.proofs.Common.{◌≡◌, ℕ, ◌+◌, ◌-◌, ◌≤◌, Bool, true, false, cond, nat_le, List, [], ◌∷◌, ◌++◌, length, take, drop, Option, Some, None, Result, Ok, Err, IfOk, refl, sym, ap, subst, ◌∙◌, append_assoc, arith}
 use Rattle.std.proofs.lemmas.List.{length-append, append-nil, length-take-le, take-append-le, take-append-drop}
 use Rattle.std.proofs.lemmas.Bool.{lt-leb, leb-true}
+use Rattle.hot_model.specs.Limits.{max_header_bytes}
 use Rattle.sdf_header.specs.declared.header_fault.HeaderFault.{HeaderFault}
 use Rattle.sdf_header.specs.declared.header_fault.HeaderFault.TheVariants.{NoMagic, TooLong}
 use Rattle.sdf_header.specs.Extent.{agrees, magic, is_ending, whole_lines, first_ending, ending, Extent, Faulty, Ends, Open, extent_from, extent, Shows, Scans, Stands}
@@ -13,7 +14,7 @@ pub open_now : (bytes : List ℕ) (line : ℕ) → Scans bytes line → extent b
 unfolding extent
 open_now bytes line s =
     let none : ending bytes ≡ None = ap ending (sym (append-nil bytes)) ∙ s.ends [] in
-    rw (s.begins, none, lt-leb 65536 (length bytes) s.short) refl
+    rw (s.begins, none, lt-leb max_header_bytes (length bytes) s.short) refl
 
 pub shows_now : (bytes : List ℕ) (e : Extent) → Shows bytes e → extent bytes ≡ e
 shows_now bytes e h = ap extent (sym (append-nil bytes)) ∙ h []
@@ -45,24 +46,24 @@ ends_are : (a b t n : ℕ) → ends a b ≡ ends t n → (a ≡ t) × (b ≡ n)
 unfolding ends
 ends_are a b t n e = (cc, cc)
 
-from_line : (c : Bool) (a b t n : ℕ) → a ≤ b → (c ≡ true → b ≤ 65536) → cond c (Ends a b) (Faulty TooLong) ≡ Ends t n → (t ≤ n) × (n ≤ 65536)
+from_line : (c : Bool) (a b t n : ℕ) → a ≤ b → (c ≡ true → b ≤ max_header_bytes) → cond c (Ends a b) (Faulty TooLong) ≡ Ends t n → (t ≤ n) × (n ≤ max_header_bytes)
 unfolding ends
 from_line true a b t n le small h = let same = ends_are a b t n h in (omega (arith, same.0, same.1), omega (arith, same.1, small refl))
 from_line false a b t n le small h = absurd cc
 
-from_none : (c : Bool) (t n : ℕ) → cond c (Faulty TooLong) Open ≡ Ends t n → (t ≤ n) × (n ≤ 65536)
+from_none : (c : Bool) (t n : ℕ) → cond c (Faulty TooLong) Open ≡ Ends t n → (t ≤ n) × (n ≤ max_header_bytes)
 from_none true t n h = absurd cc
 from_none false t n h = absurd cc
 
-from_inside : (size : ℕ) (r : Option (ℕ × ℕ)) (t n : ℕ) → ((e : ℕ × ℕ) → r ≡ Some e → e.0 ≤ e.1) → extent_from size r ≡ Ends t n → (t ≤ n) × (n ≤ 65536)
-from_inside size None t n le h = from_none (nat_le 65536 size) t n h
-from_inside size (Some e) t n le h = from_line (nat_le e.1 65536) e.0 e.1 t n (le e refl) (λ k. leb-true e.1 65536 k) h
+from_inside : (size : ℕ) (r : Option (ℕ × ℕ)) (t n : ℕ) → ((e : ℕ × ℕ) → r ≡ Some e → e.0 ≤ e.1) → extent_from size r ≡ Ends t n → (t ≤ n) × (n ≤ max_header_bytes)
+from_inside size None t n le h = from_none (nat_le max_header_bytes size) t n h
+from_inside size (Some e) t n le h = from_line (nat_le e.1 max_header_bytes) e.0 e.1 t n (le e refl) (λ k. leb-true e.1 max_header_bytes k) h
 
-from_magic : (c : Bool) (x : Extent) (t n : ℕ) → (x ≡ Ends t n → (t ≤ n) × (n ≤ 65536)) → cond c x (Faulty NoMagic) ≡ Ends t n → (t ≤ n) × (n ≤ 65536)
+from_magic : (c : Bool) (x : Extent) (t n : ℕ) → (x ≡ Ends t n → (t ≤ n) × (n ≤ max_header_bytes)) → cond c x (Faulty NoMagic) ≡ Ends t n → (t ≤ n) × (n ≤ max_header_bytes)
 from_magic true x t n f h = f h
 from_magic false x t n f h = absurd cc
 
-pub within : (bytes : List ℕ) (t n : ℕ) → extent bytes ≡ Ends t n → (t ≤ n) × (n ≤ 65536)
+pub within : (bytes : List ℕ) (t n : ℕ) → extent bytes ≡ Ends t n → (t ≤ n) × (n ≤ max_header_bytes)
 unfolding extent
 within bytes t n h = from_magic (agrees magic bytes) (extent_from (length bytes) (ending bytes)) t n (λ k. from_inside (length bytes) (ending bytes) t n (λ e w. inside (whole_lines [] bytes) 0 e w) k) h
 
@@ -175,7 +176,7 @@ is_unended found bytes line e h =
     let scans : Scans bytes line = subst (λ (r : Result (Option ℕ) HeaderFault). Stands r bytes line) e h in
     rw (open_now bytes line scans) refl
 
-pub is_ended : (found : Result (Option ℕ) HeaderFault) (bytes : List ℕ) (line t : ℕ) → found ≡ Ok (Some t) → Stands found bytes line → (verdict bytes ≡ judged (length bytes) (take t bytes)) × (t ≤ length bytes) × (length bytes ≤ 65536)
+pub is_ended : (found : Result (Option ℕ) HeaderFault) (bytes : List ℕ) (line t : ℕ) → found ≡ Ok (Some t) → Stands found bytes line → (verdict bytes ≡ judged (length bytes) (take t bytes)) × (t ≤ length bytes) × (length bytes ≤ max_header_bytes)
 unfolding verdict
 is_ended found bytes line t e h =
     let shows : Shows bytes (Ends t (length bytes)) = subst (λ (r : Result (Option ℕ) HeaderFault). Stands r bytes line) e h in

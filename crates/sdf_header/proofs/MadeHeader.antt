@@ -11,6 +11,7 @@ use Rattle.std.proofs.lemmas.Fmt.{decimal_nonempty, digits_decimal, digits_value
 use Rattle.std.proofs.lemmas.List.{append-nil, length-append}
 use Rattle.std.proofs.lemmas.Str.Parse.{tells_all_ascii_digits, IsNumeralModel, numerals_by_value}
 use Rattle.std.proofs.Math.Seq.{take-append_seam, drop-append_seam}
+use Rattle.hot_model.specs.Limits.{max_bodies, max_header_bytes}
 use Rattle.sdf_header.specs.declared.kind.Whole.TheVariants as wholes
 use Rattle.sdf_header.specs.declared.kind.Kind.TheVariants as kinds
 use Rattle.sdf_header.specs.declared.document.Value.TheVariants as values
@@ -264,12 +265,12 @@ made_extent : (ds rows : List ℕ) → AllAre ds → length ds ≤ 6 → extent 
 unfolding extent
 made_extent ds rows e le =
     let len = text_len ds in
-    let short : nat_le (length (text_1 (ds ++ 93 ∷ 59 ∷ 10 ∷ [])) + 9 + 1) 65536 ≡ true = le-leb _ _ (omega (arith, length-append ds (93 ∷ 59 ∷ 10 ∷ []))) in
+    let short : nat_le (length (text_1 (ds ++ 93 ∷ 59 ∷ 10 ∷ [])) + 9 + 1) max_header_bytes ≡ true = le-leb _ _ (omega (arith, length-append ds (93 ∷ 59 ∷ 10 ∷ []))) in
     let found : ending (text_1 (ds ++ 93 ∷ 59 ∷ 10 ∷ last_line rows)) ≡ Some (length (text_1 (ds ++ 93 ∷ 59 ∷ 10 ∷ [])), length (text_1 (ds ++ 93 ∷ 59 ∷ 10 ∷ [])) + 9 + 1) = rw len (made_ends ds rows e) in
     rw (found, short) refl
 
 -- The header that `make` writes, for any number of rows that may be there and whatever rows follow.
-make_verdict : (n : ℕ) (rows : List ℕ) → n ≤ 262144 → verdict (text_1 (printed n ++ 93 ∷ 59 ∷ 10 ∷ last_line rows)) ≡ layout_of (length (text_1 (printed n ++ 93 ∷ 59 ∷ 10 ∷ [])) + 9 + 1) (made n)
+make_verdict : (n : ℕ) (rows : List ℕ) → n ≤ max_bodies → verdict (text_1 (printed n ++ 93 ∷ 59 ∷ 10 ∷ last_line rows)) ≡ layout_of (length (text_1 (printed n ++ 93 ∷ 59 ∷ 10 ∷ [])) + 9 + 1) (made n)
 unfolding verdict judged
 make_verdict n rows le =
     let lt : n < 2 ^ 64 = omega arith in
@@ -277,7 +278,7 @@ make_verdict n rows le =
     let front_is = ap (take (length (text_1 (printed n ++ 93 ∷ 59 ∷ 10 ∷ [])))) (two_parts (printed n) rows) ∙ take-append_seam (text_1 (printed n ++ 93 ∷ 59 ∷ 10 ∷ [])) (last_line rows) in
     rw (made_extent (printed n) rows (digits_decimal own n lt) short, front_is, make_reads n lt) refl
 
-made_layout : (len n : ℕ) → n ≤ 262144 → layout_of len (made n) ≡ Ok (record {
+made_layout : (len n : ℕ) → n ≤ max_bodies → layout_of len (made n) ≡ Ok (record {
   header_len = len;
   width = 12;
   count = Some n;
@@ -295,7 +296,7 @@ made_layout : (len n : ℕ) → n ≤ 262144 → layout_of len (made n) ≡ Ok (
   vz = None;
 })
 unfolding layout_of axes_of optional_of order_of whole_param small_param cube_of mass_of count_of
-made_layout len n le = rw (le-ltb 262144 n le) refl
+made_layout len n le = rw (le-ltb max_bodies n le) refl
 
 same_text : (ds rows : List ℕ) → ((ds ++ codes "];") ++ 10 ∷ last_line []) ++ rows ≡ ds ++ 93 ∷ 59 ∷ 10 ∷ last_line rows
 same_text ds rows = append_assoc (ds ++ codes "];") (10 ∷ last_line []) rows ∙ append_assoc ds (codes "];") (10 ∷ last_line rows)
@@ -304,7 +305,7 @@ same_len : (ds : List ℕ) → length (text_1 ((ds ++ codes "];") ++ 10 ∷ last
 same_len ds = omega (arith, length-append ds (93 ∷ 59 ∷ 10 ∷ []), length-append (ds ++ codes "];") (10 ∷ last_line []), length-append ds (codes "];"))
 
 -- The header of so many generated bodies has their layout.
-pub generated_reads : (n : ℕ) → n ≤ 262144 → GeneratedHeaderReads n
+pub generated_reads : (n : ℕ) → n ≤ max_bodies → GeneratedHeaderReads n
 generated_reads n le rows =
     ap verdict (ap text_1 (same_text (printed n) rows))
     ∙ make_verdict n rows le
