@@ -9,13 +9,13 @@ use Rattle.hot.specs.declared.status.Status.{Status}
 use Rattle.hot.specs.declared.status.Status.TheVariants.{Done, Words, Input, ReadFault, WriteFault, Memory}
 use Rattle.hot.specs.declared.narrow.FileFault.{FileFault}
 use Rattle.hot.specs.Words.{JobValue, CommandValue, command_of}
-use Rattle.hot.specs.Texts.{line, fault_text, output_text}
+use Rattle.hot.specs.Texts.{line, word_text, fault_text, output_text}
 use Rattle.hot.specs.Call.{Run, Outcome, answer, bad_words, bad_file, unreadable, starved, ComesTo, Plan, plan_of, CutsOut, Delivers, IsAnswered}
 
 -- what a call ends in
 pub data Ending (run : Run) (status : Status) : Type 0 where
   wrote : status ≡ Done → (job : JobValue) (bodies : List BodyValue) → ComesTo run (answer job bodies) → IsWhole (output_text job bodies) run.out → IsWhole [] run.err → Ending run status
-  refused : status ≡ Words → (fault : WordFault) → ComesTo run (bad_words fault) → IsWhole [] run.out → run.err.failed ≡ false → Ending run status
+  refused : status ≡ Words → (fault : WordFault) → ComesTo run (bad_words fault) → IsWhole [] run.out → IsWhole (line (word_text fault)) run.err → Ending run status
   faulty : status ≡ Input → (fault : FileFault) → ComesTo run (bad_file fault) → IsWhole [] run.out → IsWhole (line (fault_text fault)) run.err → Ending run status
   broke : status ≡ ReadFault → ComesTo run unreadable → IsWhole [] run.out → run.err.failed ≡ false → Ending run status
   hungry : status ≡ Memory → ComesTo run starved → IsWhole [] run.out → Ending run status
@@ -27,17 +27,17 @@ no_cut : (plan : Plan) (out err : Gain) (status : Status) → length plan.out �
 no_cut plan out err status e cut = let g = cut.some in omega arith
 
 -- an accepted command, and an input that ended
-accepted : (r : Result CommandValue WordFault) (c : CommandValue) → r ≡ Ok c → IsOk r
+pub accepted : (r : Result CommandValue WordFault) (c : CommandValue) → r ≡ Ok c → IsOk r
 accepted r c e = subst (λ x. IsOk x) (sym e) refl
 
-whole_input : (input : Reading) (bytes : List ℕ) → input ≡ ended bytes → has_failed input ≡ false
+pub whole_input : (input : Reading) (bytes : List ℕ) → input ≡ ended bytes → has_failed input ≡ false
 whole_input input bytes e = subst (λ i. has_failed i ≡ false) (sym e) refl
 
 ends_in : (run : Run) (status : Status) (outcome : Outcome) → ComesTo run outcome → Delivers (plan_of run outcome) run.out run.err status → Ending run status
 ends_in run status (answer job bodies) comes (inl w) = wrote w.ends job bodies comes w.printed w.told
 ends_in run status (answer job bodies) comes (inr (inl w)) = cut_err w.ends w.told.rose
 ends_in run status (answer job bodies) comes (inr (inr w)) = cut_out w.ends w.printed.rose job bodies comes
-ends_in run status (bad_words fault) comes (inl w) = refused w.ends fault comes w.printed w.told.kept
+ends_in run status (bad_words fault) comes (inl w) = refused w.ends fault comes w.printed w.told
 ends_in run status (bad_words fault) comes (inr (inl w)) = cut_err w.ends w.told.rose
 ends_in run status (bad_words fault) comes (inr (inr w)) = absurd (no_cut _ _ _ _ refl w)
 ends_in run status (bad_file fault) comes (inl w) = faulty w.ends fault comes w.printed w.told
@@ -64,7 +64,7 @@ err_of r fault e = subst (λ x. IsErr x) (sym e) refl
 -- status 2
 pub words_then : (run : Run) (status : Status) → Ending run status → status ≡ Words → IsErr (command_of run.words) × (run.err.failed ≡ false)
 words_then run status (wrote s job bodies comes out err) e = absurd (cc)
-words_then run status (refused s fault comes out err) e = (err_of _ fault comes.0, err)
+words_then run status (refused s fault comes out err) e = (err_of _ fault comes.0, err.kept)
 words_then run status (faulty s fault comes out err) e = absurd (cc)
 words_then run status (broke s comes out err) e = absurd (cc)
 words_then run status (hungry s comes out) e = absurd (cc)

@@ -9,3 +9,4 @@ pub mod Outcomes
 pub mod Verdicts
 pub mod CallEndings
 pub mod ToldFiles
+pub mod CallCauses

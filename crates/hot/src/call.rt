@@ -6,7 +6,7 @@ ghost use Rattle.hot_io.specs.Writing.{Gained};
 ghost use Rattle.hot_model.specs.Values.{BodyValue};
 ghost use Rattle.hot.specs.Words.{command_of};
 ghost use Rattle.hot.specs.Narrow.{HasBodies, HasFault};
-ghost use Rattle.hot.specs.Endings.{Prints, TellsFault};
+ghost use Rattle.hot.specs.Endings.{Prints, TellsFault, TellsWords};
 ghost use Rattle.hot.specs.Call.{Run, IsAnswered};
 
 use crate::deliver::deliver;
@@ -36,7 +36,7 @@ pub fn hot_main<S: Source, O: Sink, E: Sink>(
     requires err { E.faults err.old ≡ 0 }
     requires closed { S.is_open source.old ≡ false }
     requires first { S.opens source.old ≡ 0 }
-    requires allowed { S.allows source.old 0 (codes "-") ≡ true }
+    requires allowed { IsOk (command_of words.now) → S.allows source.old 0 (codes "-") ≡ true }
 
     // The words and the file come to an outcome, whose plan is delivered.
     ensures answered { (run : Run) × (run.words ≡ words.now)
@@ -72,6 +72,21 @@ pub fn hot_main<S: Source, O: Sink, E: Sink>(
     ensures complete { (bytes : List ℕ) (bodies : List BodyValue) → S.file source.old (codes "-") ≡ Some bytes → HasBodies bytes bodies
         → IsOk (command_of words.now) → S.faults source.new ≡ 0 → O.faults out.new ≡ 0 → E.faults err.new ≡ 0
         → (result ≡ Status.Done) ⊎ (result ≡ Status.Memory) }
+
+    // Nothing failed before status 0.
+    ensures no_fault { result ≡ Status.Done → (S.faults source.new ≡ 0) × (O.faults out.new ≡ 0) × (E.faults err.new ≡ 0) }
+
+    // Status 2 prints the line that says why the words are refused.
+    ensures refusal_told { result ≡ Status.Words → TellsWords words.now (E.written err.old) (E.written err.new) }
+
+    // The words are good, the source did not fail and the error sink took the line before status 3.
+    ensures file_judged { result ≡ Status.Input → IsOk (command_of words.now) × (S.faults source.new ≡ 0) × (E.faults err.new ≡ 0) }
+
+    // One of the sinks failed before status 5.
+    ensures write_fault { result ≡ Status.WriteFault → (0 < O.faults out.new) ⊎ (0 < E.faults err.new) }
+
+    // The words are good and the source did not fail before status 6.
+    ensures starved { result ≡ Status.Memory → IsOk (command_of words.now) × (S.faults source.new ≡ 0) }
 {
     let prepared = prepare(alloc, words, source);
     deliver(&prepared, out, err)

@@ -1,7 +1,7 @@
 // What is at hand before a byte is written.
-ghost use Rattle.std.specs.Prelude.{◌≡◌, true, false, codes, length, All, IfOk};
+ghost use Rattle.std.specs.Prelude.{◌≡◌, true, false, codes, length, All, IfOk, IsOk};
 ghost use Rattle.hot_io.specs.Reading.{Reading, Stands};
-ghost use Rattle.hot.specs.Words.{job_value, command_value, job_asked};
+ghost use Rattle.hot.specs.Words.{command_of, job_value, command_value, job_asked};
 ghost use Rattle.hot.specs.Texts.{idents_of};
 ghost use Rattle.hot.specs.Prepared.{Holds, IsRead, stopped_reading, stopped_file, AreAnswers, AreOfFile};
 
@@ -105,7 +105,7 @@ pub fn prepare<S: Source>(alloc: Global, words: &WordList, source: &mut S) -> Pr
     requires unfailed { S.faults source.old ≡ 0 }
     requires closed { S.is_open source.old ≡ false }
     requires first { S.opens source.old ≡ 0 }
-    requires allowed { S.allows source.old 0 (codes "-") ≡ true }
+    requires allowed { IsOk (command_of words.now) → S.allows source.old 0 (codes "-") ≡ true }
     ensures { (input : Reading)
         × Stands S.left S.is_open S.opens S.faults (S.file source.old (codes "-")) source.old source.new input
         × Holds words.now input result }

@@ -1,5 +1,6 @@
-use Rattle.std.proofs.Common.{refl, ◌∙◌}
-use Rattle.hot.proofs.CallEndings.{ending, words_then, words_when, read_then, read_when, silent_when, unfailed, risen_count, failed_count, appended}
+use Rattle.std.proofs.Common.{refl, ◌∙◌, arith, inl, inr}
+use Rattle.hot.proofs.CallEndings.{ending, words_then, words_when, read_then, read_when, silent_when, unfailed, sound_count, risen_count, failed_count, appended}
+use Rattle.hot.proofs.CallCauses.{done_then, words_told, input_then, cut_then, starved_then}
 use Rattle.hot.proofs.ToldFiles.{told_if, told_at, unbroken, done_told, done_when, input_told, input_when}
 use Rattle.hot.proofs.call.hot_main.Goals as goal
 
@@ -78,3 +79,44 @@ returns-clause-complete g c =
     done_when a.0 _ bytes bodies end (told_at g.S.Source.left g.S.Source.is_open g.S.Source.opens g.S.Source.faults _ _ _ a.0.input a.2 bytes told) has good
     (unbroken g.S.Source.left g.S.Source.is_open g.S.Source.opens g.S.Source.faults _ _ _ a.0.input a.2 s)
     (unfailed _ _ _ _ a.0.out a.3 c.requires.out o) (unfailed _ _ _ _ a.0.err a.4 c.requires.err e)
+
+pub returns-clause-no_fault : goal.returns-clause-no_fault
+unfolding returns-clause-answered
+returns-clause-no_fault g c =
+    let a = returns-clause-answered g c in
+    let end = ending a.0 _ a.5 in
+    λ e. let h = done_then a.0 _ end e in
+    (sound_count g.S.Source.left g.S.Source.is_open g.S.Source.opens g.S.Source.faults _ _ _ a.0.input a.2 h.0 ∙ c.requires.source, a.3.kept h.1 ∙ c.requires.out, a.4.kept h.2 ∙ c.requires.err)
+
+pub returns-clause-refusal_told : goal.returns-clause-refusal_told
+unfolding returns-clause-answered
+returns-clause-refusal_told g c =
+    let a = returns-clause-answered g c in
+    let end = ending a.0 _ a.5 in
+    λ e. words_told a.0 _ _ _ _ _ end e a.4
+
+pub returns-clause-file_judged : goal.returns-clause-file_judged
+unfolding returns-clause-answered
+returns-clause-file_judged g c =
+    let a = returns-clause-answered g c in
+    let end = ending a.0 _ a.5 in
+    λ e. let h = input_then a.0 _ end e in
+    (h.0, sound_count g.S.Source.left g.S.Source.is_open g.S.Source.opens g.S.Source.faults _ _ _ a.0.input a.2 h.1 ∙ c.requires.source, a.4.kept h.2 ∙ c.requires.err)
+
+pub returns-clause-write_fault : goal.returns-clause-write_fault
+unfolding returns-clause-answered
+returns-clause-write_fault g c =
+    let a = returns-clause-answered g c in
+    let end = ending a.0 _ a.5 in
+    λ e. elim (cut_then a.0 _ end e) [
+      | inl out ↦ inl (let rose = a.3.rose out in omega (arith, rose))
+      | inr err ↦ inr (let rose = a.4.rose err in omega (arith, rose))
+    ]
+
+pub returns-clause-starved : goal.returns-clause-starved
+unfolding returns-clause-answered
+returns-clause-starved g c =
+    let a = returns-clause-answered g c in
+    let end = ending a.0 _ a.5 in
+    λ e. let h = starved_then a.0 _ end e in
+    (h.0, sound_count g.S.Source.left g.S.Source.is_open g.S.Source.opens g.S.Source.faults _ _ _ a.0.input a.2 h.1 ∙ c.requires.source)
