@@ -1,11 +1,10 @@
 -- What must have happened before each status.
-use Rattle.std.proofs.Common.{◌≡◌, ℕ, true, false, List, Option, Ok, Err, IsOk, IsErr, arith, inl, inr, subst}
+use Rattle.std.proofs.Common.{◌≡◌, ℕ, true, false, List, Option, IsOk, inl, inr}
 use Rattle.std.specs.Prelude.{◌⊎◌}
-use Rattle.std.specs.Io.KnownBytes.{Appends}
 use Rattle.hot_io.specs.Reading.{has_failed}
-use Rattle.hot_io.specs.Writing.{Gained, IsWhole}
+use Rattle.hot_io.specs.Writing.{Gained}
 use Rattle.hot.specs.declared.status.Status.{Status}
-use Rattle.hot.specs.declared.status.Status.TheVariants.{Done, Words, Input, ReadFault, WriteFault, Memory}
+use Rattle.hot.specs.declared.status.Status.TheVariants.{Done, Words, Input, WriteFault, Memory}
 use Rattle.hot.specs.Words.{command_of}
 use Rattle.hot.specs.Call.{Run}
 use Rattle.hot.specs.Endings.{TellsWords}

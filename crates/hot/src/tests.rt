@@ -242,6 +242,39 @@ fn words_and_their_refusal(rt: HostRuntime) -> Result<(), Fail> {
 }
 
 #[test]
+fn a_run_by_the_defaults(rt: HostRuntime) -> Result<(), Fail> {
+    let alloc = rt.alloc();
+    // the first body is pulled by 5931651 and 3001203
+    let input = file(alloc, b"3", &[[0, 0, 0, 1], [1, 0, 0, 1], [2, 0, 0, 1]])?;
+    let ended = call(alloc, "forces", &input, AMPLE)?;
+    let want = b"# hot forces 1\n0 8932854 0 0\n1 0 0 0\n2 -8932854 0 0\n# end 3\n";
+    check(&rt, &ended, Status::Done, want, b"");
+    Ok(())
+}
+
+#[test]
+fn no_standard_input(rt: HostRuntime) -> Result<(), Fail> {
+    let alloc = rt.alloc();
+    for (words, status, err) in [
+        ("forces", Status::ReadFault, b"hot: read fault\n".as_slice()),
+        (
+            "split",
+            Status::Words,
+            b"hot: A0 words of a later stage\n".as_slice(),
+        ),
+    ] {
+        let words = list(alloc, words)?;
+        let mut source = MemSource::new(alloc, 1)?;
+        let mut out = MemSink::new(alloc, 1, 0)?;
+        let mut told = MemSink::new(alloc, 1, 99)?;
+        let ended = hot_main(alloc, &words, &mut source, &mut out, &mut told);
+        assert_eq!(rt; ended, status);
+        assert_eq!(rt; told.written(), err);
+    }
+    Ok(())
+}
+
+#[test]
 fn defaults(rt: HostRuntime) -> Result<(), Fail> {
     let alloc = rt.alloc();
     let words = list(alloc, "forces")?;

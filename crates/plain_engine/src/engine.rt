@@ -8,7 +8,7 @@ use hot_model::{Acc3, Body, ForceEngine};
 use std::alloc::{AllocError, Global};
 use std::marker::Model;
 
-/// The reference engine: for each body one recursive walk that filters the list of bodies at each cell. Every other
+/// The reference engine: for each body one recursive walk that filters the bodies of each cell for its children. Every other
 /// engine answers the same forces.
 #[derive(Drop)]
 pub struct PlainEngine {

@@ -39,7 +39,7 @@ impl Model for Rows {
 impl Rows {
     /// A reader that was given no bytes.
     pub fn new(layout: Layout) -> Rows
-        ensures { result ≡ reader_behind layout [] }
+        ensures empty { result ≡ reader_behind layout [] }
     {
         Rows {
             layout,
@@ -57,7 +57,7 @@ impl Rows {
     /// Whatever the pieces, the rows given are the rows of the bytes joined. The fault is `Trailing`, exactly where
     /// a count is stated and all its rows were given, and comes again at each call.
     pub fn feed(&mut self, piece: &[u8]) -> Result<RowStep, RowFault>
-        requires { 1 ≤ length piece.now }
+        requires some { 1 ≤ length piece.now }
         ensures answer { (bytes : List ℕ) → IsBehind self.old bytes → result ≡ answer_to self.old.layout bytes piece.now }
         ensures after { (bytes : List ℕ) → IsBehind self.old bytes → IsBehind self.new (bytes ++ read_of result piece.now) }
         // The rows of the bytes joined are those given before, and now the one given here.
@@ -91,7 +91,7 @@ impl Rows {
     /// The fault is `Truncated`, exactly where the bytes end within that row or before a stated count is reached,
     /// or the fault that `feed` gave.
     pub fn finish(&self) -> Result<u64, RowFault>
-        ensures { (bytes : List ℕ) → IsBehind self.now bytes → result ≡ ending self.now.layout bytes }
+        ensures ending { (bytes : List ℕ) → IsBehind self.now bytes → result ≡ ending self.now.layout bytes }
     {
         if self.beyond {
             return Err(RowFault::Trailing);

@@ -13,7 +13,7 @@ returns-then-is_full-clause-after c bytes is =
     let width = ap (λ (v : RowsValue). v.layout.width) c.self.view_is in
     own_layout _ c.args.self.now.layout (bytes ++ c.args.piece.now)
     (ap (λ (v : RowsValue). record v { beyond = true }) (c.self.view_is ∙ is)
-    ∙ full_step c.args.self.now.layout bytes c.args.piece.now (omega (arith, width, c.self.invariant.0.some_bytes)) c.requires full)
+    ∙ full_step c.args.self.now.layout bytes c.args.piece.now (omega (arith, width, c.self.invariant.0.some_bytes)) c.requires.some full)
 
 pub returns-then-is_full-clause-rows : goal.returns-then-is_full-clause-rows
 returns-then-is_full-clause-rows c bytes is =
