@@ -7,7 +7,7 @@ use Rattle.body_set.specs.Rows.{body_of_row, weight_of_row}
 use Rattle.body_set.specs.Sets.{SetValue, bodies_from, set_of_rows, with_row, empty_set}
 use Rattle.body_set.specs.Laws as laws
 
-bodies-length : (cube : CubeValue) (k : ℕ) (raws : List RawRow) → length (bodies_from cube k raws) ≡ length raws
+pub bodies-length : (cube : CubeValue) (k : ℕ) (raws : List RawRow) → length (bodies_from cube k raws) ≡ length raws
 unfolding bodies_from
 bodies-length cube k [] = refl
 bodies-length cube k (raw ∷ raws) = ap suc (bodies-length cube (suc k) raws)

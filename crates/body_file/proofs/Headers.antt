@@ -1,0 +1,105 @@
+-- What a header decides.
+use Rattle.std.proofs.Common.{◌≡◌, ℕ, ◌+◌, ◌-◌, ◌≤◌, ◌<◌, Bool, true, false, List, [], ◌++◌, length, take, drop, Option, Some, None, Result, Ok, Err, refl, sym, ap, ◌∙◌, arith, append_assoc, append-nil, length-append}
+use Rattle.std.proofs.Math.Seq.{drop-append_seam}
+use Rattle.std.proofs.lemmas.List.{take-append-drop}
+use Rattle.hot_model.specs.Limits.{max_header_bytes}
+use Rattle.sdf_header.specs.declared.header_fault.HeaderFault.{HeaderFault}
+use Rattle.sdf_header.specs.declared.reader.Fed.{Fed}
+use Rattle.sdf_header.specs.declared.reader.Fed.TheVariants.{More, Ended}
+use Rattle.sdf_header.specs.declared.layout.HeaderError.{HeaderError}
+use Rattle.sdf_header.specs.declared.layout.HeaderError.TheVariants as header
+use Rattle.sdf_header.specs.Layouts.{LayoutValue}
+use Rattle.sdf_header.specs.Extent.{Extent, Faulty, Ends, Open, extent}
+use Rattle.sdf_header.specs.Verdict.{Gives, verdict, verdict_from}
+use Rattle.sdf_header.specs.Reading.{told, taken_of, Settled, ReadAlike}
+use Rattle.body_file.specs.declared.fault.FileFault.{FileFault}
+use Rattle.body_file.specs.declared.fault.FileFault.TheVariants.{Header}
+use Rattle.body_file.specs.Faults.{rows_fault, decided, Decides, header_error}
+use Rattle.body_file.specs.Reading.{IsWholeHeader, IsHeader, Stops}
+
+-- behind a header the rows decide
+pub decided_by_rows : (l : LayoutValue) (front body : List ℕ) (ended : Bool) → IsHeader l front → decided ended (front ++ body) ≡ rows_fault ended l body
+unfolding decided
+decided_by_rows l front body ended h =
+    let whole = (h.whole body).0 in
+    let gives = (h.whole body).1 ∙ h.gives in
+    let rest : drop l.header_len (front ++ body) ≡ body = ap (λ (n : ℕ). drop n (front ++ body)) h.len ∙ drop-append_seam front body in
+    rw (whole, gives, rest) refl
+
+-- a whole header at fault decides
+pub header_decides : (text : ℕ) (front more : List ℕ) (ended : Bool) (f : HeaderFault) → IsWholeHeader text front → verdict front ≡ Err f → decided ended (front ++ more) ≡ Some (Header f)
+unfolding decided
+header_decides text front more ended f h e =
+    let whole = (h more).0 in
+    let fault = (h more).1 ∙ e in
+    rw (whole, fault) refl
+
+-- so do bytes that begin no header, or one that is too long
+pub fault_decides : (bytes : List ℕ) (ended : Bool) (f : HeaderFault) → extent bytes ≡ Faulty f → verdict bytes ≡ Err f → decided ended bytes ≡ Some (Header f)
+unfolding decided
+fault_decides bytes ended f e v = rw (e, v) refl
+
+-- a header that goes on decides nothing
+pub open_undecided : (bytes : List ℕ) → extent bytes ≡ Open → decided false bytes ≡ None
+unfolding decided
+open_undecided bytes e = rw e refl
+
+-- unless the bytes end
+pub open_ended : (bytes : List ℕ) (f : HeaderFault) → extent bytes ≡ Open → verdict bytes ≡ Err f → decided true bytes ≡ Some (Header f)
+unfolding decided
+open_ended bytes f e v = rw (e, v) refl
+
+pub open_refused : (bytes : List ℕ) (l : LayoutValue) → extent bytes ≡ Open → verdict bytes ≡ Ok l → ⊥
+unfolding verdict
+open_refused bytes l e v = absurd (cc (rw e at v))
+
+pub nothing_open : extent [] ≡ Open
+unfolding extent
+nothing_open = refl
+
+-- ---- the answers to a piece
+
+pub told_more : (e : Extent) (n : ℕ) → Ok More ≡ told e n → e ≡ Open
+told_more (Faulty f) n h = absurd cc
+told_more Open n h = refl
+told_more (Ends text len) n h = absurd cc
+
+pub told_fault : (e : Extent) (n : ℕ) (f : HeaderFault) → Err f ≡ told e n → e ≡ Faulty f
+told_fault (Faulty g) n f h = cc
+told_fault Open n f h = absurd cc
+told_fault (Ends text len) n f h = absurd cc
+
+pub told_end : (e : Extent) (n k : ℕ) → Ok (Ended k) ≡ told e n → (text : ℕ) × (len : ℕ) × (e ≡ Ends text len) × (k ≡ len - n)
+told_end (Faulty f) n k h = absurd cc
+told_end Open n k h = absurd cc
+told_end (Ends text len) n k h = (text, len, refl, cc)
+
+ends_len : (t u m n : ℕ) → Ends t m ≡ Ends u n → m ≡ n
+ends_len t u m n e = cc
+
+-- the header takes no more of a piece than there is
+pub ended_within : (old new piece : List ℕ) (n text : ℕ) → Ok (Ended n) ≡ told (extent (old ++ piece)) (length old) → new ≡ old ++ take n piece → IsWholeHeader text new → n ≤ length piece
+ended_within old new piece n text h e whole =
+    let t = told_end (extent (old ++ piece)) (length old) n h in
+    let parts : old ++ piece ≡ new ++ drop n piece = ap (λ (p : List ℕ). old ++ p) (sym (take-append-drop n piece)) ∙ sym (append_assoc old (take n piece) (drop n piece)) ∙ ap (λ (b : List ℕ). b ++ drop n piece) (sym e) in
+    let len : t.1 ≡ length new = ends_len t.0 text t.1 (length new) (sym t.2 ∙ ap extent parts ∙ (whole (drop n piece)).0) in
+    let size = ap (λ (b : List ℕ). length b) parts in
+    let sums = length-append old piece in
+    let sums' = length-append new (drop n piece) in
+    omega (arith, t.3, len, size, sums, sums')
+
+-- a fault that comes with a piece
+pub fed_fault : (old new piece : List ℕ) (f : HeaderFault) → Err f ≡ told (extent (old ++ piece)) (length old) → Settled (Err f) new → ReadAlike new (old ++ piece) → Stops false (old ++ piece) (Rattle.body_file.specs.declared.fault.ReadError.TheVariants.Refused (Header f))
+fed_fault old new piece f h settled same more ended =
+    fault_decides ((old ++ piece) ++ more) ended f (sym (same more).0 ∙ (settled more).0) (sym (same more).1 ∙ (settled more).1)
+
+-- a whole header that gives no layout
+pub whole_refused : (text : ℕ) (front more : List ℕ) (e : HeaderError) → IsWholeHeader text front → Gives {Y = LayoutValue} (Err e) (verdict front) → Stops false (front ++ more) (header_error e)
+whole_refused text front more (header.Fault f) whole gives = λ rest ended.
+    ap (decided ended) (append_assoc front more rest) ∙ header_decides text front (more ++ rest) ended f whole gives
+whole_refused text front more header.Memory whole gives = tt
+
+-- the end of a header that goes on
+pub open_stops : (bytes : List ℕ) (error : HeaderError) → extent bytes ≡ Open → Gives {Y = LayoutValue} (Err error) (verdict bytes) → Stops true bytes (header_error error)
+open_stops bytes (header.Fault f) e gives = open_ended bytes f e gives
+open_stops bytes header.Memory e gives = tt

@@ -1,0 +1,5 @@
+use Rattle.body_file.proofs.Verdicts.{has_verdict}
+use Rattle.body_file.proofs.laws.files_have_verdicts.Goals as goal
+
+pub returns : goal.returns
+returns c = record { verdict = has_verdict }

@@ -1,0 +1,16 @@
+use Rattle.std.proofs.Common.{◌≡◌, ℕ, ◌+◌, ◌-◌, List, true}
+use Rattle.std.specs.Io.KnownBytes.{Consumes}
+use Rattle.body_file.specs.Files.{read_limit}
+use Rattle.body_file.specs.Reading.{HasTaken, given_to}
+use Rattle.body_file.proofs.read.read_bodies.Given as goal
+
+abbrev pub invariant-pieces : goal.invariant-pieces
+invariant-pieces g l = record {
+  unfailed : g.S.Source.faults l.source ≡ 0;
+  opened : g.S.Source.is_open l.source ≡ true;
+  once : g.S.Source.opens l.source ≡ g.S.Source.opens l.fn.source + 1;
+  taken : (bytes : List ℕ) × HasTaken l.reader bytes × Consumes (g.S.Source.file l.fn.source l.name) (g.S.Source.left l.source) bytes;
+}
+
+abbrev pub decreases-pieces : goal.decreases-pieces
+decreases-pieces g l = read_limit - given_to l.reader

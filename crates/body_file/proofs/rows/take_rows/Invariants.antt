@@ -1,0 +1,10 @@
+use Rattle.std.proofs.Common.{◌≡◌, ℕ, List, ◌++◌, length}
+use Rattle.sdf_header.specs.Layouts.{LayoutValue}
+use Rattle.body_file.specs.Reading.{IsAt}
+use Rattle.body_file.proofs.rows.take_rows.Given as goal
+
+abbrev pub invariant-rows : goal.invariant-rows
+invariant-rows l = (front : List ℕ) × (l.fn.piece ≡ front ++ l.rest) × ((layout : LayoutValue) (bytes : List ℕ) → IsAt layout l.fn.rows l.fn.set bytes → IsAt layout l.rows l.set (bytes ++ front))
+
+abbrev pub decreases-rows : goal.decreases-rows
+decreases-rows l = length l.rest

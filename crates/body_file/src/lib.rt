@@ -1,0 +1,13 @@
+//! The bodies of a body file, read from a source in pieces: header, rows and checks in one pass.
+#![tactic(auto)]
+
+mod fault;
+mod laws;
+mod limits;
+mod read;
+mod reader;
+mod rows;
+
+pub use fault::{BodyFault, FileFault, ReadError};
+pub use laws::files_have_verdicts;
+pub use read::read_bodies;
