@@ -8,7 +8,7 @@ use Rattle.hot_words.specs.declared.table.CommandName.{CommandName}
 use Rattle.hot_words.specs.Numbers.{number_of, ranks_of, leaf_of, bodies_of, softening_of, ratio_of, mail_of, form_of}
 use Rattle.hot_words.specs.Places.{word_of, begins_option, stands_as_value, is_given, value_of}
 
--- what the value of an option says, or the default where the option is not given
+-- what the value of an option says; the default where there is none, or where it is not good, which is a fault
 abbrev pub setting_of : {A : Type 0} → (List ℕ → Option A) → A → Option (List ℕ) → A
 setting_of reads default value = unwrap_or (option_and_then reads value) default
 

@@ -17,6 +17,6 @@ mod words;
 
 pub use faults::{WordCode, WordFault};
 pub use job::{Command, Job};
-pub use texts::refusal;
+pub use texts::{RefusalText, refusal};
 pub use word_list::WordList;
 pub use words::read_words;

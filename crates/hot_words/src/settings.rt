@@ -1,4 +1,4 @@
-// What the options of words say. In words without a fault each value that is given is good.
+// What the options of words say. A value that is not good is a fault, so it never comes to its default in a command.
 ghost use Rattle.std.specs.Prelude.{◌≡◌, ◌≤◌};
 ghost use Rattle.hot_model.specs.Limits.{max_ranks, max_leaf, max_bodies};
 ghost use Rattle.hot_words.specs.Settings.{ranks_given, ratio_given, softening_given, leaf_given, mail_given, sdf_given, report_given, bodies_given, seed_given, file_given};

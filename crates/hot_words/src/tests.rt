@@ -276,10 +276,9 @@ fn refused_words(rt: HostRuntime) -> Result<(), Fail> {
         };
         assert_eq!(rt; fault.code, code);
         assert_eq!(rt; fault.place, place);
-        let mut told = String::new(alloc);
-        for piece in refusal(&words, fault) {
-            told.push_str(piece)?;
-        }
+        let text = refusal(&words, fault);
+        let (front, word, between, option) = (text.front, text.word, text.between, text.option);
+        let told = format!(in alloc; "{front}{word}{between}{option}")?;
         assert_eq!(rt; told.as_str(), want);
     }
     Ok(())
