@@ -5,7 +5,6 @@ use Rattle.std.specs.List.{find, filter_map, cons_option, range_with_len, slice_
 use Rattle.std.specs.Str.{bytes_eq}
 use Rattle.hot_words.specs.declared.table.CommandName.{CommandName}
 use Rattle.hot_words.specs.declared.faults.WordCode.{WordCode}
-use Rattle.hot_words.specs.declared.faults.WordFault.{WordFault}
 use Rattle.hot_words.specs.Options.{takes_value}
 use Rattle.hot_words.specs.Places.{word_of, stands_as_value, holds_option}
 use Rattle.hot_words.specs.Faults.{code_of, fault_of, faults_of, fault_first}

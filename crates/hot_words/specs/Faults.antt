@@ -1,5 +1,5 @@
 -- The faults of words behind a command.
-use Rattle.std.specs.Prelude.{ℕ, ◌-◌, Bool, not, ◌&&◌, List, length, if◌then◌else◌, Option, Some, None}
+use Rattle.std.specs.Prelude.{ℕ, ◌-◌, not, ◌&&◌, List, length, if◌then◌else◌, Option, Some, None}
 use Rattle.std.specs.Option.{option_map}
 use Rattle.std.specs.List.{filter_map, range_with_len, slice_get}
 use Rattle.hot_words.specs.declared.table.CommandName.{CommandName}
