@@ -1,0 +1,43 @@
+-- The faults of words behind a command.
+use Rattle.std.specs.Prelude.{ℕ, ◌-◌, not, ◌&&◌, List, length, if◌then◌else◌, Option, Some, None}
+use Rattle.std.specs.Option.{option_map}
+use Rattle.std.specs.List.{filter_map, range_with_len, slice_get}
+use Rattle.hot_words.specs.declared.table.CommandName.{CommandName}
+use Rattle.hot_words.specs.declared.faults.WordCode.{WordCode}
+use Rattle.hot_words.specs.declared.faults.WordCode.TheVariants.{A3, A4, A5, A6, A7}
+use Rattle.hot_words.specs.declared.faults.WordFault.{WordFault}
+use Rattle.hot_words.specs.Options.{has_option, takes_value, has_file, is_good}
+use Rattle.hot_words.specs.Places.{word_of, is_last, begins_option, stands_as_value, is_given}
+
+-- why a value is refused: it is not good for the option before it
+abbrev pub value_fault : List (List ℕ) → ℕ → Option WordCode
+value_fault words k = if is_good (word_of words (k - 1)) (word_of words k) then None else Some A6
+
+-- why an option is refused: the command has none of its name, or it was given before, or its value is missing
+abbrev pub option_fault : CommandName → List (List ℕ) → ℕ → Option WordCode
+option_fault name words k =
+    if not (has_option name (word_of words k)) then Some A3
+    else (if is_given name words (word_of words k) k then Some A5
+    else (if takes_value name (word_of words k) && is_last words k then Some A4 else None))
+
+-- why another word is refused: it is not the last, or the command takes no file
+abbrev pub file_fault : CommandName → List (List ℕ) → ℕ → Option WordCode
+file_fault name words k = if has_file name && is_last words k then None else Some A7
+
+-- why the word at a place is refused
+abbrev pub code_of : CommandName → List (List ℕ) → ℕ → Option WordCode
+code_of name words k =
+    if stands_as_value name words k then value_fault words k
+    else (if begins_option (word_of words k) then option_fault name words k else file_fault name words k)
+
+-- the fault of the word at a place
+abbrev pub fault_of : CommandName → List (List ℕ) → ℕ → Option WordFault
+fault_of name words k = option_map (λ code. record { code = code; place = k }) (code_of name words k)
+
+-- the faults of the words behind the command, from the left
+abbrev pub faults_of : CommandName → List (List ℕ) → List WordFault
+faults_of name words = filter_map (fault_of name words) (range_with_len 1 (length words - 1))
+
+-- the fault that decides: the first
+abbrev pub fault_first : CommandName → List (List ℕ) → Option WordFault
+fault_first name words = slice_get (faults_of name words) 0

@@ -1,0 +1,57 @@
+-- What the options of words say, each by its value or by its default.
+use Rattle.std.specs.Prelude.{ℕ, ◌-◌, Bool, false, not, ◌&&◌, nat_lt, List, length, if◌then◌else◌, Option, codes}
+use Rattle.std.specs.Option.{option_and_then, unwrap_or}
+use Rattle.hot_model.specs.declared.mail.Mail.{Mail}
+use Rattle.hot_model.specs.declared.mail.Mail.TheVariants.{Prompt}
+use Rattle.fixed_kernel.specs.Ratio.{RatioValue}
+use Rattle.hot_words.specs.declared.table.CommandName.{CommandName}
+use Rattle.hot_words.specs.Numbers.{number_of, ranks_of, leaf_of, bodies_of, softening_of, ratio_of, mail_of, form_of}
+use Rattle.hot_words.specs.Places.{word_of, begins_option, stands_as_value, is_given, value_of}
+
+-- what the value of an option says; the default where there is none, or where it is not good, which is a fault
+abbrev pub setting_of : {A : Type 0} → (List ℕ → Option A) → A → Option (List ℕ) → A
+setting_of reads default value = unwrap_or (option_and_then reads value) default
+
+-- how many ranks: 1 by default
+abbrev pub ranks_given : CommandName → List (List ℕ) → ℕ
+ranks_given name words = setting_of ranks_of 1 (value_of name words (codes "--ranks"))
+
+-- the opening ratio: 7/10 by default
+abbrev pub ratio_given : CommandName → List (List ℕ) → RatioValue
+ratio_given name words = setting_of ratio_of (record { num = 7; den = 10 }) (value_of name words (codes "--theta"))
+
+-- the softening: 256 by default
+abbrev pub softening_given : CommandName → List (List ℕ) → ℕ
+softening_given name words = setting_of softening_of 256 (value_of name words (codes "--eps"))
+
+-- the leaf limit: 8 by default
+abbrev pub leaf_given : CommandName → List (List ℕ) → ℕ
+leaf_given name words = setting_of leaf_of 8 (value_of name words (codes "--leaf"))
+
+-- how letters are handed out: promptly by default
+abbrev pub mail_given : CommandName → List (List ℕ) → Mail
+mail_given name words = setting_of mail_of Prompt (value_of name words (codes "--mail"))
+
+-- whether the output is SDF: text by default
+abbrev pub sdf_given : CommandName → List (List ℕ) → Bool
+sdf_given name words = setting_of form_of false (value_of name words (codes "--form"))
+
+-- whether a report is asked for
+abbrev pub report_given : CommandName → List (List ℕ) → Bool
+report_given name words = is_given name words (codes "--report") (length words)
+
+-- how many bodies are made: 1000 by default
+abbrev pub bodies_given : CommandName → List (List ℕ) → ℕ
+bodies_given name words = setting_of bodies_of 1000 (value_of name words (codes "--bodies"))
+
+-- the seed of the bodies: 0 by default
+abbrev pub seed_given : CommandName → List (List ℕ) → ℕ
+seed_given name words = setting_of number_of 0 (value_of name words (codes "--seed"))
+
+-- whether a place behind the command holds neither an option nor a value
+abbrev pub holds_file : CommandName → List (List ℕ) → ℕ → Bool
+holds_file name words k = nat_lt 0 k && not (stands_as_value name words k) && not (begins_option (word_of words k))
+
+-- the file: the last word, where it is neither an option nor a value, and else standard input
+abbrev pub file_given : CommandName → List (List ℕ) → List ℕ
+file_given name words = if holds_file name words (length words - 1) then word_of words (length words - 1) else codes "-"

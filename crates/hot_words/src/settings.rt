@@ -1,0 +1,125 @@
+// What the options of words say. A value that is not good is a fault, so it never comes to its default in a command.
+ghost use Rattle.std.specs.Prelude.{◌≡◌, ◌≤◌};
+ghost use Rattle.hot_model.specs.Limits.{max_ranks, max_leaf, max_bodies};
+ghost use Rattle.hot_words.specs.Settings.{ranks_given, ratio_given, softening_given, leaf_given, mail_given, sdf_given, report_given, bodies_given, seed_given, file_given};
+
+use crate::numbers::{
+    read_bodies, read_eps, read_form, read_leaf, read_mail, read_number, read_ranks, read_ratio,
+};
+use crate::places::{find_option, find_value, has_dashes, holds_value, word_at};
+use crate::table::CommandName;
+use crate::word_list::WordList;
+use fixed_kernel::{Eps, Ratio};
+use hot_model::Mail;
+
+/// How many ranks: 1 by default.
+pub fn ranks(name: CommandName, words: &WordList) -> u32
+    ensures value { result ≡ ranks_given name words.now }
+    ensures limits { (1 ≤ result) × (result ≤ max_ranks) }
+{
+    match find_value(name, words, "--ranks") {
+        Some(value) => read_ranks(value).unwrap_or(1),
+        None => 1,
+    }
+}
+
+/// The opening ratio: 7/10 by default.
+pub fn ratio(name: CommandName, words: &WordList) -> Ratio
+    ensures value { result ≡ ratio_given name words.now }
+{
+    let Some(default) = Ratio::new(7, 10) else {
+        unreachable!()
+    };
+    match find_value(name, words, "--theta") {
+        Some(value) => read_ratio(value).unwrap_or(default),
+        None => default,
+    }
+}
+
+/// The softening: 256 by default.
+pub fn softening(name: CommandName, words: &WordList) -> Eps
+    ensures value { result ≡ softening_given name words.now }
+{
+    let Some(default) = Eps::new(256) else {
+        unreachable!()
+    };
+    match find_value(name, words, "--eps") {
+        Some(value) => read_eps(value).unwrap_or(default),
+        None => default,
+    }
+}
+
+/// The leaf limit: 8 by default.
+pub fn leaf(name: CommandName, words: &WordList) -> u32
+    ensures value { result ≡ leaf_given name words.now }
+    ensures limits { (1 ≤ result) × (result ≤ max_leaf) }
+{
+    match find_value(name, words, "--leaf") {
+        Some(value) => read_leaf(value).unwrap_or(8),
+        None => 8,
+    }
+}
+
+/// How letters are handed out: promptly by default.
+pub fn mail(name: CommandName, words: &WordList) -> Mail
+    ensures value { result ≡ mail_given name words.now }
+{
+    match find_value(name, words, "--mail") {
+        Some(value) => read_mail(value).unwrap_or(Mail::Prompt),
+        None => Mail::Prompt,
+    }
+}
+
+/// Whether the output is SDF: text by default.
+pub fn is_sdf(name: CommandName, words: &WordList) -> bool
+    ensures value { result ≡ sdf_given name words.now }
+{
+    match find_value(name, words, "--form") {
+        Some(value) => read_form(value).unwrap_or(false),
+        None => false,
+    }
+}
+
+/// Whether a report is asked for.
+pub fn has_report(name: CommandName, words: &WordList) -> bool
+    ensures value { result ≡ report_given name words.now }
+{
+    find_option(name, words, "--report", words.len()).is_some()
+}
+
+/// How many bodies are made: 1000 by default.
+pub fn bodies(name: CommandName, words: &WordList) -> u32
+    ensures value { result ≡ bodies_given name words.now }
+    ensures limit { result ≤ max_bodies }
+{
+    match find_value(name, words, "--bodies") {
+        Some(value) => read_bodies(value).unwrap_or(1000),
+        None => 1000,
+    }
+}
+
+/// The seed of the bodies: 0 by default.
+pub fn seed(name: CommandName, words: &WordList) -> u64
+    ensures value { result ≡ seed_given name words.now }
+{
+    match find_value(name, words, "--seed") {
+        Some(value) => read_number(value).unwrap_or(0),
+        None => 0,
+    }
+}
+
+/// The file: the last word, where it is neither an option nor a value, and else `-`, standard input.
+pub fn file(name: CommandName, words: &WordList) -> &str
+    ensures value { result.now ≡ file_given name words.now }
+{
+    if words.len() < 2 {
+        return "-";
+    }
+    let last = words.len() - 1;
+    let word = word_at(words, last);
+    if !holds_value(name, words, last) && !has_dashes(word) {
+        word
+    } else {
+        "-"
+    }
+}

@@ -1,0 +1,429 @@
+// Word lists, read and refused.
+use crate::{Command, Job, WordCode, WordList, read_words, refusal};
+use hot_model::Mail;
+use std::alloc::{AllocError, Global};
+use std::process::Abort;
+use std::test::Fail;
+
+/// The words of a text, with one blank between each two; no words where it is empty.
+fn list(alloc: Global, words: &str) -> Result<WordList, AllocError> {
+    let mut list = WordList::new(alloc);
+    if words.is_empty() {
+        return Ok(list);
+    }
+    for word in words.split(' ') {
+        list.push(word)?;
+    }
+    Ok(list)
+}
+
+#[test]
+fn refused_words(rt: HostRuntime) -> Result<(), Fail> {
+    let alloc = rt.alloc();
+    for (words, code, place, want) in [
+        ("", WordCode::A1, 0, "A1 no command"),
+        ("weigh", WordCode::A2, 0, "A2 unknown command weigh"),
+        ("--help", WordCode::A2, 0, "A2 unknown command --help"),
+        ("Forces f", WordCode::A2, 0, "A2 unknown command Forces"),
+        (
+            "split --theta 1/1",
+            WordCode::A3,
+            1,
+            "A3 unknown option --theta",
+        ),
+        (
+            "split --report",
+            WordCode::A3,
+            1,
+            "A3 unknown option --report",
+        ),
+        (
+            "forces --seed 1",
+            WordCode::A3,
+            1,
+            "A3 unknown option --seed",
+        ),
+        (
+            "make --ranks 1",
+            WordCode::A3,
+            1,
+            "A3 unknown option --ranks",
+        ),
+        (
+            "sample --form text",
+            WordCode::A3,
+            1,
+            "A3 unknown option --form",
+        ),
+        (
+            "sample --report",
+            WordCode::A3,
+            1,
+            "A3 unknown option --report",
+        ),
+        ("forces --", WordCode::A3, 1, "A3 unknown option --"),
+        (
+            "forces --eps=1",
+            WordCode::A3,
+            1,
+            "A3 unknown option --eps=1",
+        ),
+        ("forces --EPS 1", WordCode::A3, 1, "A3 unknown option --EPS"),
+        (
+            "forces --leaf 8 --leaf 8",
+            WordCode::A5,
+            3,
+            "A5 option given twice --leaf",
+        ),
+        (
+            "forces --leaf 8 --leaf",
+            WordCode::A5,
+            3,
+            "A5 option given twice --leaf",
+        ),
+        (
+            "forces --leaf 8 --leaf 0",
+            WordCode::A5,
+            3,
+            "A5 option given twice --leaf",
+        ),
+        (
+            "forces --report --report",
+            WordCode::A5,
+            2,
+            "A5 option given twice --report",
+        ),
+        ("forces --theta", WordCode::A4, 1, "A4 no value for --theta"),
+        (
+            "forces --eps 1 --theta",
+            WordCode::A4,
+            3,
+            "A4 no value for --theta",
+        ),
+        ("make --seed", WordCode::A4, 1, "A4 no value for --seed"),
+        (
+            "forces --ranks 0 f",
+            WordCode::A6,
+            2,
+            "A6 bad value 0 for --ranks",
+        ),
+        (
+            "forces --ranks 65",
+            WordCode::A6,
+            2,
+            "A6 bad value 65 for --ranks",
+        ),
+        (
+            "forces --leaf 0",
+            WordCode::A6,
+            2,
+            "A6 bad value 0 for --leaf",
+        ),
+        (
+            "forces --leaf 65",
+            WordCode::A6,
+            2,
+            "A6 bad value 65 for --leaf",
+        ),
+        (
+            "forces --eps 0",
+            WordCode::A6,
+            2,
+            "A6 bad value 0 for --eps",
+        ),
+        (
+            "forces --eps 268435457",
+            WordCode::A6,
+            2,
+            "A6 bad value 268435457 for --eps",
+        ),
+        (
+            "forces --eps +1",
+            WordCode::A6,
+            2,
+            "A6 bad value +1 for --eps",
+        ),
+        (
+            "forces --eps 4294967297",
+            WordCode::A6,
+            2,
+            "A6 bad value 4294967297 for --eps",
+        ),
+        (
+            "forces --eps 000000000000000000001",
+            WordCode::A6,
+            2,
+            "A6 bad value 000000000000000000001 for --eps",
+        ),
+        ("forces --eps ", WordCode::A6, 2, "A6 bad value  for --eps"),
+        (
+            "forces --eps --theta",
+            WordCode::A6,
+            2,
+            "A6 bad value --theta for --eps",
+        ),
+        (
+            "forces --eps --eps",
+            WordCode::A6,
+            2,
+            "A6 bad value --eps for --eps",
+        ),
+        (
+            "forces --theta 1",
+            WordCode::A6,
+            2,
+            "A6 bad value 1 for --theta",
+        ),
+        (
+            "forces --theta 1/0",
+            WordCode::A6,
+            2,
+            "A6 bad value 1/0 for --theta",
+        ),
+        (
+            "forces --theta 1/1/1",
+            WordCode::A6,
+            2,
+            "A6 bad value 1/1/1 for --theta",
+        ),
+        (
+            "forces --theta /1",
+            WordCode::A6,
+            2,
+            "A6 bad value /1 for --theta",
+        ),
+        (
+            "forces --theta 1025/1",
+            WordCode::A6,
+            2,
+            "A6 bad value 1025/1 for --theta",
+        ),
+        (
+            "forces --theta 1/1025",
+            WordCode::A6,
+            2,
+            "A6 bad value 1/1025 for --theta",
+        ),
+        (
+            "forces --mail first",
+            WordCode::A6,
+            2,
+            "A6 bad value first for --mail",
+        ),
+        (
+            "forces --mail 18446744073709551616",
+            WordCode::A6,
+            2,
+            "A6 bad value 18446744073709551616 for --mail",
+        ),
+        (
+            "forces --form SDF",
+            WordCode::A6,
+            2,
+            "A6 bad value SDF for --form",
+        ),
+        (
+            "make --bodies 262145",
+            WordCode::A6,
+            2,
+            "A6 bad value 262145 for --bodies",
+        ),
+        (
+            "make --seed -1",
+            WordCode::A6,
+            2,
+            "A6 bad value -1 for --seed",
+        ),
+        (
+            "sample --seed 1 --bodies x",
+            WordCode::A6,
+            4,
+            "A6 bad value x for --bodies",
+        ),
+        ("forces a b", WordCode::A7, 1, "A7 extra word a"),
+        ("forces a --eps 1", WordCode::A7, 1, "A7 extra word a"),
+        ("forces a --eps", WordCode::A7, 1, "A7 extra word a"),
+        ("forces  a", WordCode::A7, 1, "A7 extra word "),
+        ("forces -x f", WordCode::A7, 1, "A7 extra word -x"),
+        ("split - -", WordCode::A7, 1, "A7 extra word -"),
+        ("make f", WordCode::A7, 1, "A7 extra word f"),
+        ("make --seed 1 ", WordCode::A7, 3, "A7 extra word "),
+        ("sample --bodies 1 -", WordCode::A7, 3, "A7 extra word -"),
+        ("forces --report x y", WordCode::A7, 2, "A7 extra word x"),
+        (
+            "forces --eps 0 --none",
+            WordCode::A6,
+            2,
+            "A6 bad value 0 for --eps",
+        ),
+        (
+            "forces --none --eps 0",
+            WordCode::A3,
+            1,
+            "A3 unknown option --none",
+        ),
+        (
+            "forces --eps 1 --none 2 --eps 1",
+            WordCode::A3,
+            3,
+            "A3 unknown option --none",
+        ),
+    ] {
+        let words = list(alloc, words)?;
+        let Err(fault) = read_words(&words) else {
+            assert!(rt; false);
+            return Ok(());
+        };
+        assert_eq!(rt; fault.code, code);
+        assert_eq!(rt; fault.place, place);
+        let text = refusal(&words, fault);
+        let (front, word, between, option) = (text.front, text.word, text.between, text.option);
+        let told = format!(in alloc; "{front}{word}{between}{option}")?;
+        assert_eq!(rt; told.as_str(), want);
+    }
+    Ok(())
+}
+
+/// How letters are handed out, by its word.
+fn mail_word(alloc: Global, mail: Mail) -> Result<String, AllocError> {
+    match mail {
+        Mail::Prompt => String::from_str(alloc, "prompt"),
+        Mail::Last => String::from_str(alloc, "last"),
+        Mail::Single => String::from_str(alloc, "single"),
+        Mail::Seeded(seed) => format!(in alloc; "{seed}"),
+    }
+}
+
+/// A run's numbers and choices in a line.
+fn job_line(alloc: Global, job: &Job) -> Result<String, AllocError> {
+    let mail = mail_word(alloc, job.mail)?;
+    let (ranks, num, den) = (job.ranks, job.ratio.num(), job.ratio.den());
+    let (eps, leaf, sdf, report, file) = (job.eps.get(), job.leaf, job.sdf, job.report, job.file);
+    format!(in alloc; "{ranks} {num}/{den} {eps} {leaf} {mail} {sdf} {report} {file}")
+}
+
+/// A command in a line.
+fn command_line(alloc: Global, command: &Command) -> Result<String, AllocError> {
+    match command {
+        Command::Forces(job) => {
+            let job = job_line(alloc, job)?;
+            format!(in alloc; "forces {job}")
+        }
+        Command::Split { ranks, file } => format!(in alloc; "split {ranks} {file}"),
+        Command::Make { bodies, seed } => format!(in alloc; "make {bodies} {seed}"),
+        Command::Sample { bodies, seed, job } => {
+            let job = job_line(alloc, job)?;
+            format!(in alloc; "sample {bodies} {seed} {job}")
+        }
+    }
+}
+
+#[test]
+fn accepted_words(rt: HostRuntime) -> Result<(), Fail> {
+    let alloc = rt.alloc();
+    for (words, want) in [
+        ("forces", "forces 1 7/10 256 8 prompt false false -"),
+        ("forces f", "forces 1 7/10 256 8 prompt false false f"),
+        ("forces -", "forces 1 7/10 256 8 prompt false false -"),
+        ("forces -x", "forces 1 7/10 256 8 prompt false false -x"),
+        ("forces ", "forces 1 7/10 256 8 prompt false false "),
+        (
+            "forces forces",
+            "forces 1 7/10 256 8 prompt false false forces",
+        ),
+        (
+            "forces --ranks 64",
+            "forces 64 7/10 256 8 prompt false false -",
+        ),
+        (
+            "forces --theta 0/1",
+            "forces 1 0/1 256 8 prompt false false -",
+        ),
+        (
+            "forces --theta 1024/1024",
+            "forces 1 1024/1024 256 8 prompt false false -",
+        ),
+        (
+            "forces --theta 00000000000000000000/01024",
+            "forces 1 0/1024 256 8 prompt false false -",
+        ),
+        (
+            "forces --eps 268435456",
+            "forces 1 7/10 268435456 8 prompt false false -",
+        ),
+        (
+            "forces --eps 00000000000000000001",
+            "forces 1 7/10 1 8 prompt false false -",
+        ),
+        (
+            "forces --leaf 64",
+            "forces 1 7/10 256 64 prompt false false -",
+        ),
+        (
+            "forces --mail prompt",
+            "forces 1 7/10 256 8 prompt false false -",
+        ),
+        (
+            "forces --mail last",
+            "forces 1 7/10 256 8 last false false -",
+        ),
+        (
+            "forces --mail single",
+            "forces 1 7/10 256 8 single false false -",
+        ),
+        ("forces --mail 05", "forces 1 7/10 256 8 5 false false -"),
+        (
+            "forces --mail 18446744073709551615",
+            "forces 1 7/10 256 8 18446744073709551615 false false -",
+        ),
+        (
+            "forces --form text",
+            "forces 1 7/10 256 8 prompt false false -",
+        ),
+        (
+            "forces --form sdf",
+            "forces 1 7/10 256 8 prompt true false -",
+        ),
+        ("forces --report", "forces 1 7/10 256 8 prompt false true -"),
+        (
+            "forces --report f",
+            "forces 1 7/10 256 8 prompt false true f",
+        ),
+        (
+            "forces --form sdf --mail 3 --report --leaf 1 --eps 2 --theta 1/2 --ranks 4 f",
+            "forces 4 1/2 2 1 3 true true f",
+        ),
+        ("split", "split 1 -"),
+        ("split --ranks 2 f", "split 2 f"),
+        ("make", "make 1000 0"),
+        (
+            "make --bodies 0 --seed 18446744073709551615",
+            "make 0 18446744073709551615",
+        ),
+        ("make --seed 7 --bodies 262144", "make 262144 7"),
+        ("sample", "sample 1000 0 1 7/10 256 8 prompt false false -"),
+        (
+            "sample --bodies 20000 --seed 7 --ranks 16 --theta 1/1 --eps 1 --leaf 1 --mail last",
+            "sample 20000 7 16 1/1 1 1 last false false -",
+        ),
+    ] {
+        let words = list(alloc, words)?;
+        let Ok(command) = read_words(&words) else {
+            assert!(rt; false);
+            return Ok(());
+        };
+        let told = command_line(alloc, &command)?;
+        assert_eq!(rt; told.as_str(), want);
+    }
+    Ok(())
+}
+
+#[test]
+fn lists_of_words(rt: HostRuntime) -> Result<(), Fail> {
+    let alloc = rt.alloc();
+    let words = list(alloc, "forces f")?;
+    assert_eq!(rt; words.len(), 2);
+    assert_eq!(rt; words.get(1), Some("f"));
+    assert_eq!(rt; words.get(2), None);
+    Ok(())
+}
