@@ -115,7 +115,7 @@ has_placed b (x ∷ xs) y m = by_test (has_placed b xs y) (before b x)
           ]
         ]
 
-ordered_has : (xs : List BodyValue) (y : BodyValue) → Contains (ordered xs) y → Contains xs y
+pub ordered_has : (xs : List BodyValue) (y : BodyValue) → Contains (ordered xs) y → Contains xs y
 unfolding ordered
 ordered_has [] y m = m
 ordered_has (x ∷ xs) y m =
@@ -124,7 +124,7 @@ ordered_has (x ∷ xs) y m =
       | inr e ↦ tail_has x xs y (ordered_has xs y e)
     ]
 
-has_ordered : (xs : List BodyValue) (y : BodyValue) → Contains xs y → Contains (ordered xs) y
+pub has_ordered : (xs : List BodyValue) (y : BodyValue) → Contains xs y → Contains (ordered xs) y
 unfolding ordered
 has_ordered [] y m = m
 has_ordered (x ∷ xs) y m =
@@ -219,7 +219,7 @@ counts_from k (x ∷ xs) h r =
 pub one_each : (xs : List BodyValue) → RowsCount xs → OneEach xs
 one_each xs h r = (counts_from 0 xs (λ i d p. (let q = h i d p in omega (arith, q))) r).0
 
-has_at : (xs : List BodyValue) (j : ℕ) (d : BodyValue) → j < length xs → Contains xs (get_or xs j d)
+pub has_at : (xs : List BodyValue) (j : ℕ) (d : BodyValue) → j < length xs → Contains xs (get_or xs j d)
 has_at [] j d h = absurd (omega (arith, h))
 has_at (x ∷ xs) zero d h = head_has x xs
 has_at (x ∷ xs) (suc j) d h = tail_has x xs (get_or xs j d) (has_at xs j d (omega (arith, h)))

@@ -3,40 +3,41 @@ use Rattle.std.proofs.Common.{◌≡◌, ℕ, ◌<◌, Bool, true, false, List, 
 use Rattle.std.specs.Io.KnownBytes.{Appends}
 use Rattle.hot_io.specs.Reading.{Reading, unread, unopened, unfinished, ended, broken, has_failed, Stands}
 use Rattle.hot_io.specs.Writing.{Gain, Gained, IsWhole}
-use Rattle.hot_model.specs.Values.{BodyValue}
-use Rattle.hot.specs.declared.words.WordFault.{WordFault}
+use Rattle.body_set.specs.Sets.{SetValue}
+use Rattle.hot.specs.declared.job.Refusal.{Refusal}
 use Rattle.hot.specs.declared.status.Status.{Status}
 use Rattle.hot.specs.declared.status.Status.TheVariants.{Done, Words, Input, ReadFault, WriteFault, Memory}
-use Rattle.hot.specs.declared.narrow.FileFault.{FileFault}
-use Rattle.hot.specs.Words.{JobValue, CommandValue, command_of}
-use Rattle.hot.specs.Texts.{line, word_text, fault_text, output_text}
+use Rattle.body_file.specs.declared.fault.FileFault.{FileFault}
+use Rattle.hot_words.specs.Commands.{JobValue}
+use Rattle.hot.specs.Jobs.{job_of}
+use Rattle.hot.specs.Texts.{line, refused_text, fault_text, output_text}
 use Rattle.hot.specs.Call.{Run, Outcome, answer, bad_words, bad_file, unreadable, starved, ComesTo, Plan, plan_of, CutsOut, Delivers, IsAnswered}
 
 -- what a call ends in
 pub data Ending (run : Run) (status : Status) : Type 0 where
-  wrote : status ≡ Done → (job : JobValue) (bodies : List BodyValue) → ComesTo run (answer job bodies) → IsWhole (output_text job bodies) run.out → IsWhole [] run.err → Ending run status
-  refused : status ≡ Words → (fault : WordFault) → ComesTo run (bad_words fault) → IsWhole [] run.out → IsWhole (line (word_text fault)) run.err → Ending run status
+  wrote : status ≡ Done → (job : JobValue) (set : SetValue) → ComesTo run (answer job set) → IsWhole (output_text job set) run.out → IsWhole [] run.err → Ending run status
+  refused : status ≡ Words → (refusal : Refusal) → ComesTo run (bad_words refusal) → IsWhole [] run.out → IsWhole (line (refused_text run.words refusal)) run.err → Ending run status
   faulty : status ≡ Input → (fault : FileFault) → ComesTo run (bad_file fault) → IsWhole [] run.out → IsWhole (line (fault_text fault)) run.err → Ending run status
   broke : status ≡ ReadFault → ComesTo run unreadable → IsWhole [] run.out → run.err.failed ≡ false → Ending run status
   hungry : status ≡ Memory → ComesTo run starved → IsWhole [] run.out → Ending run status
   cut_err : status ≡ WriteFault → run.err.failed ≡ true → Ending run status
-  cut_out : status ≡ WriteFault → run.out.failed ≡ true → (job : JobValue) (bodies : List BodyValue) → ComesTo run (answer job bodies) → Ending run status
+  cut_out : status ≡ WriteFault → run.out.failed ≡ true → (job : JobValue) (set : SetValue) → ComesTo run (answer job set) → Ending run status
 
 -- a plan that is no answer writes nothing to the output
 no_cut : (plan : Plan) (out err : Gain) (status : Status) → length plan.out ≡ 0 → CutsOut plan out err status → ⊥
 no_cut plan out err status e cut = let g = cut.some in omega arith
 
 -- an accepted command, and an input that ended
-pub accepted : (r : Result CommandValue WordFault) (c : CommandValue) → r ≡ Ok c → IsOk r
+pub accepted : (r : Result JobValue Refusal) (c : JobValue) → r ≡ Ok c → IsOk r
 accepted r c e = subst (λ x. IsOk x) (sym e) refl
 
 pub whole_input : (input : Reading) (bytes : List ℕ) → input ≡ ended bytes → has_failed input ≡ false
 whole_input input bytes e = subst (λ i. has_failed i ≡ false) (sym e) refl
 
 ends_in : (run : Run) (status : Status) (outcome : Outcome) → ComesTo run outcome → Delivers (plan_of run outcome) run.out run.err status → Ending run status
-ends_in run status (answer job bodies) comes (inl w) = wrote w.ends job bodies comes w.printed w.told
-ends_in run status (answer job bodies) comes (inr (inl w)) = cut_err w.ends w.told.rose
-ends_in run status (answer job bodies) comes (inr (inr w)) = cut_out w.ends w.printed.rose job bodies comes
+ends_in run status (answer job set) comes (inl w) = wrote w.ends job set comes w.printed w.told
+ends_in run status (answer job set) comes (inr (inl w)) = cut_err w.ends w.told.rose
+ends_in run status (answer job set) comes (inr (inr w)) = cut_out w.ends w.printed.rose job set comes
 ends_in run status (bad_words fault) comes (inl w) = refused w.ends fault comes w.printed w.told
 ends_in run status (bad_words fault) comes (inr (inl w)) = cut_err w.ends w.told.rose
 ends_in run status (bad_words fault) comes (inr (inr w)) = absurd (no_cut _ _ _ _ refl w)
@@ -54,60 +55,60 @@ pub ending : (run : Run) (status : Status) → IsAnswered run status → Ending 
 ending run status is = ends_in run status is.outcome is.comes is.delivered
 
 -- accepted words are not refused
-pub ok_err : (r : Result CommandValue WordFault) → IsOk r → IsErr r → ⊥
+pub ok_err : (r : Result JobValue Refusal) → IsOk r → IsErr r → ⊥
 ok_err (Ok x) a b = absurd (cc)
 ok_err (Err x) a b = absurd (cc)
 
-pub err_of : (r : Result CommandValue WordFault) (fault : WordFault) → r ≡ Err fault → IsErr r
+pub err_of : (r : Result JobValue Refusal) (refusal : Refusal) → r ≡ Err refusal → IsErr r
 err_of r fault e = subst (λ x. IsErr x) (sym e) refl
 
 -- status 2
-pub words_then : (run : Run) (status : Status) → Ending run status → status ≡ Words → IsErr (command_of run.words) × (run.err.failed ≡ false)
-words_then run status (wrote s job bodies comes out err) e = absurd (cc)
+pub words_then : (run : Run) (status : Status) → Ending run status → status ≡ Words → IsErr (job_of run.words) × (run.err.failed ≡ false)
+words_then run status (wrote s job set comes out err) e = absurd (cc)
 words_then run status (refused s fault comes out err) e = (err_of _ fault comes.0, err.kept)
 words_then run status (faulty s fault comes out err) e = absurd (cc)
 words_then run status (broke s comes out err) e = absurd (cc)
 words_then run status (hungry s comes out) e = absurd (cc)
 words_then run status (cut_err s err) e = absurd (cc)
-words_then run status (cut_out s out job bodies comes) e = absurd (cc)
+words_then run status (cut_out s out job set comes) e = absurd (cc)
 
-pub words_when : (run : Run) (status : Status) → Ending run status → IsErr (command_of run.words) → run.err.failed ≡ false → status ≡ Words
-words_when run status (wrote s job bodies comes out err) bad kept = absurd (ok_err _ (accepted _ _ comes.0) bad)
+pub words_when : (run : Run) (status : Status) → Ending run status → IsErr (job_of run.words) → run.err.failed ≡ false → status ≡ Words
+words_when run status (wrote s job set comes out err) bad kept = absurd (ok_err _ (accepted _ _ comes.0) bad)
 words_when run status (refused s fault comes out err) bad kept = s
 words_when run status (faulty s fault comes out err) bad kept = absurd (ok_err _ comes.0 bad)
 words_when run status (broke s comes out err) bad kept = absurd (ok_err _ comes.0 bad)
 words_when run status (hungry s comes out) bad kept = absurd (ok_err _ comes.0 bad)
 words_when run status (cut_err s err) bad kept = absurd (cc)
-words_when run status (cut_out s out job bodies comes) bad kept = absurd (ok_err _ (accepted _ _ comes.0) bad)
+words_when run status (cut_out s out job set comes) bad kept = absurd (ok_err _ (accepted _ _ comes.0) bad)
 
 -- status 4
-pub read_then : (run : Run) (status : Status) → Ending run status → status ≡ ReadFault → IsOk (command_of run.words) × (has_failed run.input ≡ true) × (run.err.failed ≡ false)
-read_then run status (wrote s job bodies comes out err) e = absurd (cc)
+pub read_then : (run : Run) (status : Status) → Ending run status → status ≡ ReadFault → IsOk (job_of run.words) × (has_failed run.input ≡ true) × (run.err.failed ≡ false)
+read_then run status (wrote s job set comes out err) e = absurd (cc)
 read_then run status (refused s fault comes out err) e = absurd (cc)
 read_then run status (faulty s fault comes out err) e = absurd (cc)
 read_then run status (broke s comes out err) e = (comes.0, comes.1, err)
 read_then run status (hungry s comes out) e = absurd (cc)
 read_then run status (cut_err s err) e = absurd (cc)
-read_then run status (cut_out s out job bodies comes) e = absurd (cc)
+read_then run status (cut_out s out job set comes) e = absurd (cc)
 
-pub read_when : (run : Run) (status : Status) → Ending run status → IsOk (command_of run.words) → has_failed run.input ≡ true → run.err.failed ≡ false → status ≡ ReadFault
-read_when run status (wrote s job bodies comes out err) good bad kept = let h = whole_input run.input _ comes.1.1 in absurd (cc)
+pub read_when : (run : Run) (status : Status) → Ending run status → IsOk (job_of run.words) → has_failed run.input ≡ true → run.err.failed ≡ false → status ≡ ReadFault
+read_when run status (wrote s job set comes out err) good bad kept = let h = whole_input run.input _ comes.1.1 in absurd (cc)
 read_when run status (refused s fault comes out err) good bad kept = absurd (ok_err _ good (err_of _ fault comes.0))
 read_when run status (faulty s fault comes out err) good bad kept = let h = comes.1 in absurd (cc)
 read_when run status (broke s comes out err) good bad kept = s
 read_when run status (hungry s comes out) good bad kept = let h = comes.1 in absurd (cc)
 read_when run status (cut_err s err) good bad kept = absurd (cc)
-read_when run status (cut_out s out job bodies comes) good bad kept = let h = whole_input run.input _ comes.1.1 in absurd (cc)
+read_when run status (cut_out s out job set comes) good bad kept = let h = whole_input run.input _ comes.1.1 in absurd (cc)
 
 -- the statuses that leave the output as it was
 pub silent_when : (run : Run) (status : Status) → Ending run status → (status ≡ Done → ⊥) → (status ≡ WriteFault → ⊥) → IsWhole [] run.out
-silent_when run status (wrote s job bodies comes out err) done cut = absurd (done s)
+silent_when run status (wrote s job set comes out err) done cut = absurd (done s)
 silent_when run status (refused s fault comes out err) done cut = out
 silent_when run status (faulty s fault comes out err) done cut = out
 silent_when run status (broke s comes out err) done cut = out
 silent_when run status (hungry s comes out) done cut = out
 silent_when run status (cut_err s err) done cut = absurd (cut s)
-silent_when run status (cut_out s out job bodies comes) done cut = absurd (cut s)
+silent_when run status (cut_out s out job set comes) done cut = absurd (cut s)
 
 -- a sink whose count is 0 did not fail
 pub unfailed : (old new : Option (List ℕ)) (before now : ℕ) (gain : Gain) → Gained old new before now gain → before ≡ 0 → now ≡ 0 → gain.failed ≡ false

@@ -25,29 +25,29 @@ line_delivered plan oold eold enew obefore ebefore enow (Err x) status silent so
 
 -- an answer that was written
 pub answer_delivered : (a : Forces) (oold onew eold : Option (List ℕ)) (obefore onow ebefore : ℕ)
-    → (out : Result (Unit {0}) Failed) → out ≡ Ok tt → FailsExactly obefore onow out → Writes oold onew out (forces_text a.idents.items a.forces.items)
+    → (out : Result (Unit {0}) Failed) → out ≡ Ok tt → FailsExactly obefore onow out → Writes oold onew out (forces_text a.ordered.idents a.forces.items)
     → (og : Gain) × (eg : Gain) × Gained oold onew obefore onow og × Gained eold eold ebefore ebefore eg × Delivers (answer_plan a) og eg Done
 answer_delivered a oold onew eold obefore onow ebefore (Ok x) e cause writes =
-    let out = tells_of oold onew obefore onow (Ok x) (forces_text a.idents.items a.forces.items) cause writes in
+    let out = tells_of oold onew obefore onow (Ok x) (forces_text a.ordered.idents a.forces.items) cause writes in
     let err = gain_none eold ebefore in
     (out.0, err.0, out.1, err.1, inl (record { ends = refl; printed = out.2; told = err.2 }))
 answer_delivered a oold onew eold obefore onow ebefore (Err x) e cause writes = cc
 
 -- an answer that was cut, and the line that says so
 pub answer_cut : (a : Forces) (oold onew eold enew : Option (List ℕ)) (obefore onow ebefore enow : ℕ)
-    → (out : Result (Unit {0}) Failed) (f : Failed) → out ≡ Err f → FailsExactly obefore onow out → Writes oold onew out (forces_text a.idents.items a.forces.items)
+    → (out : Result (Unit {0}) Failed) (f : Failed) → out ≡ Err f → FailsExactly obefore onow out → Writes oold onew out (forces_text a.ordered.idents a.forces.items)
     → (tried : Result (Unit {0}) Failed) → Tells eold enew ebefore enow tried (line (codes "write fault"))
     → (og : Gain) × (eg : Gain) × Gained oold onew obefore onow og × Gained eold enew ebefore enow eg × Delivers (answer_plan a) og eg WriteFault
 answer_cut a oold onew eold enew obefore onow ebefore enow (Ok x) f e cause writes tried tells = cc
 answer_cut a oold onew eold enew obefore onow ebefore enow (Err x) f e cause writes tried tells =
-    let out = tells_of oold onew obefore onow (Err x) (forces_text a.idents.items a.forces.items) cause writes in (
+    let out = tells_of oold onew obefore onow (Err x) (forces_text a.ordered.idents a.forces.items) cause writes in (
       out.0,
       tells.0,
       out.1,
       tells.1,
       inr (inr (record {
         ends = refl;
-        some = omega (arith, length-append first_line (body_lines a.idents.items a.forces.items ++ last_line (length a.forces.items)));
+        some = omega (arith, length-append first_line (body_lines a.ordered.idents a.forces.items ++ last_line (length a.forces.items)));
         printed = out.2;
         told = tried_of (line (codes "write fault")) tried tells.0 tells.2;
       })),

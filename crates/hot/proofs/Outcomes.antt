@@ -1,75 +1,59 @@
 -- What the words and a reading come to.
-use Rattle.std.proofs.Common.{◌≡◌, ℕ, ◌<◌, false, List, [], ◌++◌, length, ℤ, Ok, Err, IsOk, refl, sym, ap, ◌∙◌, subst, arith, length-append}
-use Rattle.hot_io.specs.Reading.{Reading, unread, ended, taken}
+use Rattle.std.proofs.Common.{◌≡◌, ℕ, false, List, [], ℤ, Ok, Err, IsOk, refl, sym, ap, ◌∙◌, subst}
+use Rattle.hot_io.specs.Reading.{Reading, unread, has_failed}
 use Rattle.hot_model.specs.Values.{Acc3Value}
 use Rattle.force_out.specs.ForcesText.{forces_text}
-use Rattle.hot.specs.declared.words.WordFault.{WordFault}
-use Rattle.hot.specs.declared.narrow.FileFault.TheVariants.{Form}
-use Rattle.hot.specs.declared.read.ReadError.{ReadError}
-use Rattle.hot.specs.declared.read.ReadError.TheVariants.{Broken, TooLong, Memory}
-use Rattle.hot.specs.declared.prepare.Prepared.{Prepared}
-use Rattle.hot.specs.declared.prepare.Prepared.TheVariants.{Answered, Refused, Faulty, Unreadable, Starved}
+use Rattle.body_set.specs.Sets.{SetValue}
+use Rattle.body_file.specs.declared.fault.ReadError.{ReadError}
+use Rattle.body_file.specs.declared.fault.ReadError.TheVariants as read
+use Rattle.body_file.specs.Files.{IsPrompt, ReadsBodies, Stopped}
+use Rattle.body_file.proofs.Readings.{prompt_begin}
+use Rattle.hot_words.specs.Commands.{JobValue}
+use Rattle.hot.specs.declared.job.Refusal.{Refusal}
+use Rattle.hot.specs.declared.answer.Forces.{Forces}
+use Rattle.hot.specs.declared.prepare.Prepared.TheVariants.{Answered, Refused, Starved}
 use Rattle.hot.specs.declared.status.Status.TheVariants.{Done, WriteFault}
-use Rattle.hot.specs.Words.{JobValue, CommandValue, forces, command_of, job_asked}
-use Rattle.hot.specs.Narrow.{longest}
-use Rattle.hot.specs.Input.{IsBounded, Stopped, Decides}
+use Rattle.hot.specs.Jobs.{job_of}
 use Rattle.hot.specs.Call.{Plan, answer, bad_words, bad_file, unreadable, starved}
 use Rattle.hot.specs.Texts.{forces_of}
-use Rattle.hot.specs.Prepared.{Holds, IsRead, stopped_reading}
-use Rattle.hot.proofs.NarrowFiles.{narrow_short}
+use Rattle.hot.specs.Prepared.{AreAnswers, Holds, stopped}
 
 -- accepted words
-accepted : (words : List (List ℕ)) (command : CommandValue) → command_of words ≡ Ok command → IsOk (command_of words)
-accepted words command e = subst (λ r. IsOk r) (sym e) refl
+accepted : (words : List (List ℕ)) (job : JobValue) → job_of words ≡ Ok job → IsOk (job_of words)
+accepted words job e = subst (λ r. IsOk r) (sym e) refl
 
 -- refused words
-pub holds_refused : (words : List (List ℕ)) (fault : WordFault) → command_of words ≡ Err fault → Holds words unread (Refused fault)
-holds_refused words fault e =
-    record { outcome = bad_words fault; comes = λ out err. (e, refl); bounded = record { bounded = omega arith }; plan = λ out err. refl }
+pub holds_refused : (words : List (List ℕ)) (refusal : Refusal) → job_of words ≡ Err refusal → Holds words unread (Refused refusal)
+holds_refused words refusal e =
+    record { outcome = bad_words refusal; comes = λ out err. (e, refl); prompt = prompt_begin unread refl; plan = λ out err. refl }
 
--- more bytes than any file has
-too_long : (bytes : List ℕ) → longest < length bytes → Decides false bytes Form
-too_long bytes many = λ rest n rows is. let h = narrow_short n rows (bytes ++ rest) is in omega (arith, length-append bytes rest)
+-- a reading without bodies
+pub holds_stopped : (words : List (List ℕ)) (job : JobValue) (input : Reading) (error : ReadError) → job_of words ≡ Ok job → IsPrompt input → Stopped input error → Holds words input (stopped error)
+holds_stopped words job input read.Broken e prompt s =
+    record { outcome = unreadable; comes = λ out err. (accepted words job e, s.0, s.1); prompt = prompt; plan = λ out err. refl }
+holds_stopped words job input (read.Refused fault) e prompt s =
+    record { outcome = bad_file fault; comes = λ out err. (accepted words job e, s.0, s.1); prompt = prompt; plan = λ out err. refl }
+holds_stopped words job input read.Memory e prompt s =
+    record { outcome = starved; comes = λ out err. (accepted words job e, s); prompt = prompt; plan = λ out err. refl }
 
--- a reading that stopped
-pub holds_stopped : (words : List (List ℕ)) (command : CommandValue) (input : Reading) (error : ReadError) → command_of words ≡ Ok command
-    → IsBounded input → Stopped input error → Holds words input (stopped_reading error)
-holds_stopped words command input Broken e bounded stopped =
-    record { outcome = unreadable; comes = λ out err. (accepted words command e, stopped); bounded = bounded; plan = λ out err. refl }
-holds_stopped words command input TooLong e bounded stopped = record {
-  outcome = bad_file Form;
-  comes = λ out err. (accepted words command e, stopped.0, subst (λ b. Decides b (taken input) Form) (sym stopped.1) (too_long (taken input) stopped.2));
-  bounded = bounded;
-  plan = λ out err. refl;
-}
-holds_stopped words command input Memory e bounded stopped =
-    record { outcome = starved; comes = λ out err. (accepted words command e, stopped); bounded = bounded; plan = λ out err. refl }
-
--- the plan of names and forces
+-- the plan of idents and forces
 abbrev plan_by : List ℤ → List Acc3Value → Plan
 plan_by idents accs = record { out = forces_text idents accs; err = []; status = Done; cut = WriteFault }
 
--- a whole reading
-holds_ended : (words : List (List ℕ)) (job : JobValue) (bytes : List ℕ) (prepared : Prepared) → command_of words ≡ Ok (forces job)
-    → IsBounded (ended bytes) → IsRead job bytes prepared → Holds words (ended bytes) prepared
-holds_ended words job bytes (Answered a) e bounded read = record {
-  outcome = answer job read.0;
-  comes = λ out err. (e, (bytes, refl, read.1));
-  bounded = bounded;
-  plan = λ out err. ap (λ l. plan_by l (forces_of job read.0)) (sym read.2.idents) ∙ ap (λ l. plan_by a.idents.items l) (sym read.2.forces);
+-- bodies, and the forces on them
+pub holds_answered : (words : List (List ℕ)) (job : JobValue) (input : Reading) (set : SetValue) (a : Forces) → job_of words ≡ Ok job → IsPrompt input → ReadsBodies input set → AreAnswers job set a → Holds words input (Answered a)
+holds_answered words job input set a e prompt r are = record {
+  outcome = answer job set;
+  comes = λ out err. (e, (r.bytes, r.all, r.has));
+  prompt = prompt;
+  plan = λ out err. ap (λ l. plan_by l (forces_of job set.bodies)) (sym are.idents) ∙ ap (λ l. plan_by a.ordered.idents l) (sym are.forces);
 }
-holds_ended words job bytes (Refused fault) e bounded read = absurd read
-holds_ended words job bytes (Faulty fault) e bounded read =
-    record { outcome = bad_file fault; comes = λ out err. (accepted words (forces job) e, refl, read); bounded = bounded; plan = λ out err. refl }
-holds_ended words job bytes Unreadable e bounded read = absurd read
-holds_ended words job bytes Starved e bounded read =
-    record { outcome = starved; comes = λ out err. (accepted words (forces job) e, refl); bounded = bounded; plan = λ out err. refl }
 
-one_command : (command : CommandValue) → command ≡ forces (job_asked command)
-one_command (forces job) = refl
-
-pub holds_read : (words : List (List ℕ)) (command : CommandValue) (input : Reading) (bytes : List ℕ) (prepared : Prepared) → command_of words ≡ Ok command
-    → IsBounded input → input ≡ ended bytes → IsRead (job_asked command) bytes prepared → Holds words input prepared
-holds_read words command input bytes prepared e bounded same read =
-    let asked = e ∙ ap (λ c. Ok c) (one_command command) in
-    subst (λ i. Holds words i prepared) (sym same) (holds_ended words (job_asked command) bytes prepared asked (subst (λ i. IsBounded i) same bounded) read)
+-- bodies, and no memory for the forces
+pub holds_starved : (words : List (List ℕ)) (job : JobValue) (input : Reading) (set : SetValue) → job_of words ≡ Ok job → IsPrompt input → ReadsBodies input set → Holds words input Starved
+holds_starved words job input set e prompt r = record {
+  outcome = starved;
+  comes = λ out err. (accepted words job e, subst (λ i. has_failed i ≡ false) (sym r.all) refl);
+  prompt = prompt;
+  plan = λ out err. refl;
+}

@@ -1,16 +1,17 @@
 -- What one call of the program comes to, and what it leaves.
-use Rattle.std.specs.Prelude.{◌≡◌, ℕ, ◌<◌, ◌⊎◌, true, false, List, [], length, Ok, Err, IsOk, codes}
+use Rattle.std.specs.Prelude.{◌≡◌, ℕ, ◌<◌, ◌⊎◌, true, false, List, [], length, None, Ok, Err, IsOk, codes}
 use Rattle.hot_io.specs.Reading.{Reading, unread, ended, taken, has_ended, has_failed}
 use Rattle.hot_io.specs.Writing.{Gain, IsWhole, IsCut, IsTried}
-use Rattle.hot_model.specs.Values.{BodyValue}
-use Rattle.hot.specs.declared.words.WordFault.{WordFault}
-use Rattle.hot.specs.declared.narrow.FileFault.{FileFault}
+use Rattle.hot_words.specs.Commands.{JobValue}
+use Rattle.body_set.specs.Sets.{SetValue}
+use Rattle.body_file.specs.declared.fault.FileFault.{FileFault}
+use Rattle.body_file.specs.Faults.{decided, Decides}
+use Rattle.body_file.specs.Files.{HasBodies, IsPrompt}
+use Rattle.hot.specs.declared.job.Refusal.{Refusal}
 use Rattle.hot.specs.declared.status.Status.{Status}
 use Rattle.hot.specs.declared.status.Status.TheVariants.{Done, Words, Input, ReadFault, WriteFault, Memory}
-use Rattle.hot.specs.Words.{JobValue, forces, command_of}
-use Rattle.hot.specs.Narrow.{HasBodies}
-use Rattle.hot.specs.Input.{Decides, IsBounded}
-use Rattle.hot.specs.Texts.{line, output_text, word_text, fault_text}
+use Rattle.hot.specs.Jobs.{job_of}
+use Rattle.hot.specs.Texts.{line, output_text, refused_text, fault_text}
 
 -- one call: the words, how far the file was read, and what the sinks gained
 pub record Run : Type 0 where
@@ -21,21 +22,21 @@ pub record Run : Type 0 where
 
 -- what a run comes to
 pub data Outcome : Type 0 where
-  answer : JobValue → List BodyValue → Outcome  -- the forces on these bodies
-  bad_words : WordFault → Outcome
+  answer : JobValue → SetValue → Outcome  -- the forces on these bodies
+  bad_words : Refusal → Outcome
   bad_file : FileFault → Outcome
   unreadable : Outcome  -- the source failed
   starved : Outcome  -- want of memory
 
 -- where each comes
 abbrev pub ComesTo : Run → Outcome → Type 0
-ComesTo run (answer job bodies) =
-    (command_of run.words ≡ Ok (forces job)) × ((bytes : List ℕ) × (run.input ≡ ended bytes) × HasBodies bytes bodies)
-ComesTo run (bad_words fault) = (command_of run.words ≡ Err fault) × (run.input ≡ unread)
+ComesTo run (answer job set) =
+    (job_of run.words ≡ Ok job) × ((bytes : List ℕ) × (run.input ≡ ended bytes) × HasBodies bytes set)
+ComesTo run (bad_words refusal) = (job_of run.words ≡ Err refusal) × (run.input ≡ unread)
 ComesTo run (bad_file fault) =
-    IsOk (command_of run.words) × (has_failed run.input ≡ false) × Decides (has_ended run.input) (taken run.input) fault
-ComesTo run unreadable = IsOk (command_of run.words) × (has_failed run.input ≡ true)
-ComesTo run starved = IsOk (command_of run.words) × (has_failed run.input ≡ false)
+    IsOk (job_of run.words) × (has_failed run.input ≡ false) × Decides (has_ended run.input) (taken run.input) fault
+ComesTo run unreadable = IsOk (job_of run.words) × (has_failed run.input ≡ true) × (decided false (taken run.input) ≡ None)
+ComesTo run starved = IsOk (job_of run.words) × (has_failed run.input ≡ false)
 
 -- what is to be written, with the status where it is, and where the error sink fails in it
 pub record Plan : Type 0 where
@@ -46,8 +47,8 @@ pub record Plan : Type 0 where
 
 -- the plan of each outcome
 abbrev pub plan_of : Run → Outcome → Plan
-plan_of run (answer job bodies) = record { out = output_text job bodies; err = []; status = Done; cut = WriteFault }
-plan_of run (bad_words fault) = record { out = []; err = line (word_text fault); status = Words; cut = WriteFault }
+plan_of run (answer job set) = record { out = output_text job set; err = []; status = Done; cut = WriteFault }
+plan_of run (bad_words refusal) = record { out = []; err = line (refused_text run.words refusal); status = Words; cut = WriteFault }
 plan_of run (bad_file fault) = record { out = []; err = line (fault_text fault); status = Input; cut = WriteFault }
 plan_of run unreadable = record { out = []; err = line (codes "read fault"); status = ReadFault; cut = WriteFault }
 plan_of run starved = record { out = []; err = line (codes "out of memory"); status = Memory; cut = Memory }
@@ -80,5 +81,5 @@ Delivers plan out err status = WritesAll plan out err status ⊎ (CutsErr plan o
 pub record IsAnswered (run : Run) (status : Status) : Type 0 where
   pub outcome : Outcome
   pub comes : ComesTo run outcome
-  pub bounded : IsBounded run.input
+  pub prompt : IsPrompt run.input
   pub delivered : Delivers (plan_of run outcome) run.out run.err status

@@ -1,10 +1,7 @@
 pub mod Statuses
-pub mod Numbers
-pub mod Words
-pub mod Rows
-pub mod Narrow
-pub mod Input
+pub mod Jobs
 pub mod Texts
 pub mod Call
+pub mod Places
 pub mod Prepared
 pub mod Endings

@@ -1,20 +1,21 @@
 // One call of the program.
-ghost use Rattle.std.specs.Prelude.{◌≡◌, ◌<◌, ◌↔◌, ◌⊎◌, ℕ, List, [], true, false, codes, IsOk, IsErr, IfSome, Some};
+ghost use Rattle.std.specs.Prelude.{◌≡◌, ◌<◌, ◌↔◌, ◌⊎◌, ℕ, List, [], true, false, IsOk, IsErr, IfSome, Some};
 ghost use Rattle.std.specs.Io.KnownBytes.{Appends};
 ghost use Rattle.hot_io.specs.Reading.{Stands};
 ghost use Rattle.hot_io.specs.Writing.{Gained};
-ghost use Rattle.hot_model.specs.Values.{BodyValue};
-ghost use Rattle.hot.specs.Words.{command_of};
-ghost use Rattle.hot.specs.Narrow.{HasBodies, HasFault};
+ghost use Rattle.body_set.specs.Sets.{SetValue};
+ghost use Rattle.body_file.specs.Faults.{decided};
+ghost use Rattle.body_file.specs.Files.{HasBodies};
+ghost use Rattle.hot.specs.Jobs.{job_of, file_named};
 ghost use Rattle.hot.specs.Endings.{Prints, TellsFault, TellsWords};
 ghost use Rattle.hot.specs.Call.{Run, IsAnswered};
 
 use crate::deliver::deliver;
-use crate::narrow::FileFault;
 use crate::prepare::prepare;
 use crate::status::Status;
-use crate::word_list::WordList;
+use body_file::FileFault;
 use hot_io::{Sink, Source};
+use hot_words::WordList;
 use std::alloc::Global;
 
 /// Does what the words say: reads the bodies of a file from standard input, computes the force of gravity on each of
@@ -36,41 +37,41 @@ pub fn hot_main<S: Source, O: Sink, E: Sink>(
     requires err { E.faults err.old ≡ 0 }
     requires closed { S.is_open source.old ≡ false }
     requires first { S.opens source.old ≡ 0 }
-    requires allowed { IsOk (command_of words.now) → S.allows source.old 0 (codes "-") ≡ true }
+    requires allowed { IsOk (job_of words.now) → S.allows source.old 0 (file_named words.now) ≡ true }
 
     // The words and the file come to an outcome, whose plan is delivered.
     ensures answered { (run : Run) × (run.words ≡ words.now)
-        × Stands S.left S.is_open S.opens S.faults (S.file source.old (codes "-")) source.old source.new run.input
+        × Stands S.left S.is_open S.opens S.faults (S.file source.old (file_named words.now)) source.old source.new run.input
         × Gained (O.written out.old) (O.written out.new) (O.faults out.old) (O.faults out.new) run.out
         × Gained (E.written err.old) (E.written err.new) (E.faults err.old) (E.faults err.new) run.err
         × IsAnswered run result }
 
     // Status 2 comes exactly where the words are refused and the error sink takes the line.
-    ensures refused_words { (result ≡ Status.Words) ↔ (IsErr (command_of words.now) × (E.faults err.new ≡ 0)) }
+    ensures refused_words { (result ≡ Status.Words) ↔ (IsErr (job_of words.now) × (E.faults err.new ≡ 0)) }
 
     // Status 4 comes exactly where the words are good, the source fails and the error sink takes the line.
-    ensures read_fault { (result ≡ Status.ReadFault) ↔ (IsOk (command_of words.now) × (0 < S.faults source.new) × (E.faults err.new ≡ 0)) }
+    ensures read_fault { (result ≡ Status.ReadFault) ↔ (IsOk (job_of words.now) × (0 < S.faults source.new) × (E.faults err.new ≡ 0)) }
 
     // Every refusal and want of memory leave the output as it was.
     ensures silent { (result ≡ Status.Done → ⊥) → (result ≡ Status.WriteFault → ⊥)
         → Appends (O.written out.old) (O.written out.new) [] × (O.faults out.new ≡ 0) }
 
     // Over a source that tells its bytes, status 0 prints the forces on their bodies, and nothing else.
-    ensures done { result ≡ Status.Done → IfSome (S.file source.old (codes "-")) (λ bytes.
+    ensures done { result ≡ Status.Done → IfSome (S.file source.old (file_named words.now)) (λ bytes.
         Prints words.now bytes (O.written out.old) (O.written out.new) × Appends (E.written err.old) (E.written err.new) []) }
 
     // Over a source that tells its bytes, status 3 prints the line of a fault that they have.
-    ensures refused_file { result ≡ Status.Input → IfSome (S.file source.old (codes "-")) (λ bytes.
+    ensures refused_file { result ≡ Status.Input → IfSome (S.file source.old (file_named words.now)) (λ bytes.
         TellsFault bytes (E.written err.old) (E.written err.new)) }
 
     // Where the words are good, the file has a fault and nothing failed, only want of memory stands before status 3.
-    ensures faulty_file { (bytes : List ℕ) (fault : FileFault) → S.file source.old (codes "-") ≡ Some bytes → HasFault bytes fault
-        → IsOk (command_of words.now) → S.faults source.new ≡ 0 → E.faults err.new ≡ 0
+    ensures faulty_file { (bytes : List ℕ) (fault : FileFault) → S.file source.old (file_named words.now) ≡ Some bytes → decided true bytes ≡ Some fault
+        → IsOk (job_of words.now) → S.faults source.new ≡ 0 → E.faults err.new ≡ 0
         → (result ≡ Status.Input) ⊎ (result ≡ Status.Memory) }
 
     // Where the words and the file are good and nothing failed, only want of memory stands before status 0.
-    ensures complete { (bytes : List ℕ) (bodies : List BodyValue) → S.file source.old (codes "-") ≡ Some bytes → HasBodies bytes bodies
-        → IsOk (command_of words.now) → S.faults source.new ≡ 0 → O.faults out.new ≡ 0 → E.faults err.new ≡ 0
+    ensures complete { (bytes : List ℕ) (set : SetValue) → S.file source.old (file_named words.now) ≡ Some bytes → HasBodies bytes set
+        → IsOk (job_of words.now) → S.faults source.new ≡ 0 → O.faults out.new ≡ 0 → E.faults err.new ≡ 0
         → (result ≡ Status.Done) ⊎ (result ≡ Status.Memory) }
 
     // Nothing failed before status 0.
@@ -80,14 +81,14 @@ pub fn hot_main<S: Source, O: Sink, E: Sink>(
     ensures refusal_told { result ≡ Status.Words → TellsWords words.now (E.written err.old) (E.written err.new) }
 
     // The words are good, the source did not fail and the error sink took the line before status 3.
-    ensures file_judged { result ≡ Status.Input → IsOk (command_of words.now) × (S.faults source.new ≡ 0) × (E.faults err.new ≡ 0) }
+    ensures file_judged { result ≡ Status.Input → IsOk (job_of words.now) × (S.faults source.new ≡ 0) × (E.faults err.new ≡ 0) }
 
     // One of the sinks failed before status 5.
     ensures write_fault { result ≡ Status.WriteFault → (0 < O.faults out.new) ⊎ (0 < E.faults err.new) }
 
     // The words are good and the source did not fail before status 6.
-    ensures starved { result ≡ Status.Memory → IsOk (command_of words.now) × (S.faults source.new ≡ 0) }
+    ensures starved { result ≡ Status.Memory → IsOk (job_of words.now) × (S.faults source.new ≡ 0) }
 {
     let prepared = prepare(alloc, words, source);
-    deliver(&prepared, out, err)
+    deliver(words, &prepared, out, err)
 }

@@ -1,29 +1,40 @@
-// What the program is asked to do.
-ghost use Rattle.std.specs.Prelude.{◌≤◌};
-ghost use Rattle.hot_model.specs.Limits.{max_ranks, max_leaf};
+// What the words ask for, as far as this stage has it.
+ghost use Rattle.std.specs.Prelude.{◌≡◌, Ok, Err, MatchResult};
+ghost use Rattle.hot_words.specs.Commands.{job_value};
+ghost use Rattle.hot.specs.Jobs as jobs;
 
-use fixed_kernel::{Eps, Ratio};
 use hot_model::Mail;
+use hot_words::{Command, Job, WordFault, WordList, read_words};
 
-/// The numbers and choices of a run: ranks, 1 to 64; the opening ratio; the softening; the most bodies of a leaf, 1 to
-/// 64; how letters are handed out; the form of the output; whether a report is asked for; and the file, where `-` is
-/// standard input.
-#[derive(Drop)]
-pub struct Job<'a> {
-    pub ranks: u32,
-    pub ratio: Ratio,
-    pub eps: Eps,
-    pub leaf: u32,
-    pub mail: Mail,
-    pub sdf: bool,
-    pub report: bool,
-    pub file: &'a str,
-    ghost ranks_in: { (1 ≤ ranks) × (ranks ≤ max_ranks) },
-    ghost leaf_in: { (1 ≤ leaf) × (leaf ≤ max_leaf) },
+/// Why words give no run: they are refused, or they ask for what a later stage builds.
+#[derive(Clone, Copy, Debug, PartialEq, Eq)]
+pub enum Refusal {
+    Words(WordFault),
+    Later,
 }
 
-/// What the program is to do: print the forces on the bodies of a file.
-#[derive(Drop)]
-pub enum Command<'a> {
-    Forces(Job<'a>),
+/// Whether this stage has the run: one rank, letters handed out promptly, forces as text, and no report.
+fn runs_now(job: &Job<'_>) -> bool
+    ensures { result ≡ jobs.runs_now (job_value job.now) }
+{
+    job.ranks == 1 && matches!(job.mail, Mail::Prompt) && !job.sdf && !job.report
+}
+
+/// The run that the words ask for. It takes no memory.
+pub fn read_job<'a>(words: &'a WordList) -> Result<Job<'a>, Refusal>
+    ensures { MatchResult result
+        (λ job. jobs.job_of words.now ≡ Ok (job_value job))
+        (λ refusal. jobs.job_of words.now ≡ Err refusal) }
+{
+    match read_words(words) {
+        Ok(Command::Forces(job)) => {
+            if runs_now(&job) {
+                Ok(job)
+            } else {
+                Err(Refusal::Later)
+            }
+        }
+        Ok(_) => Err(Refusal::Later),
+        Err(fault) => Err(Refusal::Words(fault)),
+    }
 }

@@ -5,25 +5,19 @@ mod answer;
 mod call;
 mod deliver;
 mod job;
-mod narrow;
-mod numbers;
+mod lines;
+mod place;
 mod prepare;
-mod read;
-mod rows;
 mod status;
-mod word_list;
-mod words;
 
 pub use call::hot_main;
 use hot_io::{ErrSink, FileSource, OutSink};
-pub use job::{Command, Job};
+pub use hot_words::{Command, Job, WordCode, WordFault, WordList, read_words};
 pub use plain_engine::PlainEngine;
 pub use status::Status;
 use std::env;
 use std::io::{self, ErrorKind};
 use std::process::ExitCode;
-pub use word_list::WordList;
-pub use words::{WordCode, WordFault, read_words};
 
 /// How the program ends where the system gives no words: as at want of memory, or, where they are no text, as at
 /// refused words.
@@ -63,5 +57,5 @@ fn main(rt: HostRuntime) -> ExitCode {
     ExitCode::from(status.code())
 }
 
-#[cfg(test)]
-mod tests;
+
+

@@ -1,18 +1,20 @@
 // What is at hand before a byte is written.
-ghost use Rattle.std.specs.Prelude.{◌≡◌, true, false, codes, length, All, IfOk, IsOk};
+ghost use Rattle.std.specs.Prelude.{◌≡◌, true, false, ℕ, List, All, IfOk, IsOk};
 ghost use Rattle.hot_io.specs.Reading.{Reading, Stands};
-ghost use Rattle.hot.specs.Words.{command_of, job_value, command_value, job_asked};
-ghost use Rattle.hot.specs.Texts.{idents_of};
-ghost use Rattle.hot.specs.Prepared.{Holds, IsRead, stopped_reading, stopped_file, AreAnswers, AreOfFile};
+ghost use Rattle.sdf_rows.specs.Columns.{Is64Bits};
+ghost use Rattle.body_file.specs.Files.{HasBodies};
+ghost use Rattle.hot_words.specs.Commands.{job_value};
+ghost use Rattle.hot.specs.Jobs.{job_of, file_named};
+ghost use Rattle.hot.specs.Prepared.{AreAnswers, Holds, stopped};
 
 use crate::answer::Forces;
-use crate::job::{Command, Job};
-use crate::narrow::{FileError, FileFault, read_file};
-use crate::read::{ReadError, read_input};
-use crate::word_list::WordList;
-use crate::words::{WordFault, read_words};
+use crate::job::{Refusal, read_job};
+use crate::place::place_by_row;
+use body_file::{FileFault, ReadError, read_bodies};
+use body_set::BodySet;
 use hot_io::Source;
-use hot_model::{Body, ForceEngine};
+use hot_model::ForceEngine;
+use hot_words::{Job, WordList};
 use plain_engine::PlainEngine;
 use std::alloc::{AllocError, Global};
 
@@ -20,27 +22,18 @@ use std::alloc::{AllocError, Global};
 #[derive(Drop)]
 pub enum Prepared {
     Answered(Forces),
-    Refused(WordFault),
+    Refused(Refusal),
     Faulty(FileFault),
     Unreadable,
     Starved,
 }
 
-/// The numbers that name bodies: their rows.
-fn name_rows(alloc: Global, bodies: &[Body]) -> Result<Vec<i128>, AllocError>
-    ensures { IfOk result (λ idents. idents.items ≡ idents_of bodies.now) }
-{
-    let mut idents = Vec::new(alloc);
-    for body in bodies {
-        idents.push(i128::from(body.row))?;
-    }
-    Ok(idents)
-}
-
-/// The forces on the bodies of a file, by the numbers of a run.
-fn compute(alloc: Global, job: &Job, bodies: &[Body]) -> Result<Forces, AllocError>
-    requires { AreOfFile bodies.now }
-    ensures { IfOk result (λ answer. AreAnswers (job_value job.now) bodies.now answer) }
+/// The forces on the bodies of a file, by the numbers of a run. They are computed in key order and put into the order of
+/// the file.
+fn compute(alloc: Global, job: &Job<'_>, set: BodySet) -> Result<Forces, AllocError>
+    requires named { All Is64Bits set.idents }
+    requires of_a_file { (bytes : List ℕ) × HasBodies bytes set }
+    ensures { IfOk result (λ answer. AreAnswers (job_value job.now) set answer) }
 {
     let Some(mut engine) = PlainEngine::new(
         job.ratio.num(),
@@ -50,52 +43,20 @@ fn compute(alloc: Global, job: &Job, bodies: &[Body]) -> Result<Forces, AllocErr
     ) else {
         unreachable!()
     };
-    let forces = engine.forces(alloc, &mut (), bodies)?;
-    let idents = name_rows(alloc, bodies)?;
-    Ok(Forces { idents, forces })
+    let ordered = set.order(alloc)?;
+    let found = engine.forces(alloc, &mut (), ordered.bodies())?;
+    let forces = place_by_row(alloc, ordered.bodies(), &found)?;
+    Ok(Forces { ordered, forces })
 }
 
-/// What a reading that stopped comes to.
-fn stop_reading(error: ReadError) -> Prepared
-    ensures { result ≡ stopped_reading error }
+/// What a reading without bodies comes to.
+fn stop(error: ReadError) -> Prepared
+    ensures { result ≡ stopped error }
 {
     match error {
         ReadError::Broken => Prepared::Unreadable,
-        ReadError::TooLong => Prepared::Faulty(FileFault::Form),
+        ReadError::Refused(fault) => Prepared::Faulty(fault),
         ReadError::Memory => Prepared::Starved,
-    }
-}
-
-/// What a file without bodies comes to.
-fn stop_file(error: FileError) -> Prepared
-    ensures { result ≡ stopped_file error }
-{
-    match error {
-        FileError::Fault(fault) => Prepared::Faulty(fault),
-        FileError::Memory => Prepared::Starved,
-    }
-}
-
-/// The answer of a run on the bytes of a file.
-fn run(alloc: Global, job: &Job, bytes: &[u8]) -> Prepared
-    ensures { IsRead (job_value job.now) bytes.now result }
-{
-    let bodies = match read_file(alloc, bytes) {
-        Ok(bodies) => bodies,
-        Err(error) => return stop_file(error),
-    };
-    match compute(alloc, job, &bodies) {
-        Ok(forces) => Prepared::Answered(forces),
-        Err(_) => Prepared::Starved,
-    }
-}
-
-/// The answer of a command on the bytes of a file.
-fn answer(alloc: Global, command: &Command, bytes: &[u8]) -> Prepared
-    ensures { IsRead (job_asked (command_value command.now)) bytes.now result }
-{
-    match command {
-        Command::Forces(job) => run(alloc, job, bytes),
     }
 }
 
@@ -105,17 +66,21 @@ pub fn prepare<S: Source>(alloc: Global, words: &WordList, source: &mut S) -> Pr
     requires unfailed { S.faults source.old ≡ 0 }
     requires closed { S.is_open source.old ≡ false }
     requires first { S.opens source.old ≡ 0 }
-    requires allowed { IsOk (command_of words.now) → S.allows source.old 0 (codes "-") ≡ true }
+    requires allowed { IsOk (job_of words.now) → S.allows source.old 0 (file_named words.now) ≡ true }
     ensures { (input : Reading)
-        × Stands S.left S.is_open S.opens S.faults (S.file source.old (codes "-")) source.old source.new input
+        × Stands S.left S.is_open S.opens S.faults (S.file source.old (file_named words.now)) source.old source.new input
         × Holds words.now input result }
 {
-    let command = match read_words(words) {
-        Ok(command) => command,
-        Err(fault) => return Prepared::Refused(fault),
+    let job = match read_job(words) {
+        Ok(job) => job,
+        Err(refusal) => return Prepared::Refused(refusal),
     };
-    match read_input(alloc, source) {
-        Ok(bytes) => answer(alloc, &command, &bytes),
-        Err(error) => stop_reading(error),
+    let set = match read_bodies(alloc, source, job.file) {
+        Ok(set) => set,
+        Err(error) => return stop(error),
+    };
+    match compute(alloc, &job, set) {
+        Ok(forces) => Prepared::Answered(forces),
+        Err(_) => Prepared::Starved,
     }
 }

@@ -13,7 +13,7 @@ returns-clause-answered g c =
       read.1,
       written.2,
       written.3,
-      record { outcome = read.2.outcome; comes = read.2.comes written.0 written.1; bounded = read.2.bounded; delivered = rw (read.2.plan written.0 written.1) written.4 },
+      record { outcome = read.2.outcome; comes = read.2.comes written.0 written.1; prompt = read.2.prompt; delivered = rw (read.2.plan written.0 written.1) written.4 },
     )
 
 pub returns-clause-refused_words : goal.returns-clause-refused_words
@@ -75,8 +75,8 @@ unfolding returns-clause-answered
 returns-clause-complete g c =
     let a = returns-clause-answered g c in
     let end = ending a.0 _ a.5 in
-    λ bytes bodies told has good s o e.
-    done_when a.0 _ bytes bodies end (told_at g.S.Source.left g.S.Source.is_open g.S.Source.opens g.S.Source.faults _ _ _ a.0.input a.2 bytes told) has good
+    λ bytes set told has good s o e.
+    done_when a.0 _ bytes set end (told_at g.S.Source.left g.S.Source.is_open g.S.Source.opens g.S.Source.faults _ _ _ a.0.input a.2 bytes told) has good
     (unbroken g.S.Source.left g.S.Source.is_open g.S.Source.opens g.S.Source.faults _ _ _ a.0.input a.2 s)
     (unfailed _ _ _ _ a.0.out a.3 c.requires.out o) (unfailed _ _ _ _ a.0.err a.4 c.requires.err e)
 
