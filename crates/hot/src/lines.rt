@@ -23,12 +23,7 @@ pub fn write_line<E: Sink>(err: &mut E, text: &[u8], more: &[u8]) -> Result<(), 
 }
 
 /// Writes the line `hot: `, and a text with a name in it.
-fn write_named<E: Sink>(
-    err: &mut E,
-    front: &[u8],
-    name: &[u8],
-    back: &[u8],
-) -> Result<(), Failed>
+fn write_named<E: Sink>(err: &mut E, front: &[u8], name: &[u8], back: &[u8]) -> Result<(), Failed>
     requires { E.faults err.old ≡ 0 }
     ensures { Tells (E.written err.old) (E.written err.new) (E.faults err.old) (E.faults err.new) result
         (texts.line (front.now ++ (name.now ++ back.now))) }
@@ -62,11 +57,7 @@ fn write_at<E: Sink>(err: &mut E, front: &[u8], number: u64) -> Result<(), Faile
 }
 
 /// Writes why words are refused.
-fn write_word_line<E: Sink>(
-    err: &mut E,
-    words: &WordList,
-    fault: WordFault,
-) -> Result<(), Failed>
+fn write_word_line<E: Sink>(err: &mut E, words: &WordList, fault: WordFault) -> Result<(), Failed>
     requires { E.faults err.old ≡ 0 }
     ensures { Tells (E.written err.old) (E.written err.new) (E.faults err.old) (E.faults err.new) result
         (texts.line (word_text words.now fault)) }
@@ -86,11 +77,7 @@ fn write_word_line<E: Sink>(
 }
 
 /// Writes why words give no run.
-pub fn write_refusal<E: Sink>(
-    err: &mut E,
-    words: &WordList,
-    refusal: Refusal,
-) -> Result<(), Failed>
+pub fn write_refusal<E: Sink>(err: &mut E, words: &WordList, refusal: Refusal) -> Result<(), Failed>
     requires { E.faults err.old ≡ 0 }
     ensures { Tells (E.written err.old) (E.written err.new) (E.faults err.old) (E.faults err.new) result
         (texts.line (texts.refused_text words.now refusal)) }

@@ -57,5 +57,5 @@ fn main(rt: HostRuntime) -> ExitCode {
     ExitCode::from(status.code())
 }
 
-
-
+#[cfg(test)]
+mod tests;

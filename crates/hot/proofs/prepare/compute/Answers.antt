@@ -3,7 +3,6 @@ use Rattle.hot_model.specs.Values.{BodyValue, Acc3Value}
 use Rattle.hot_model.specs.Trees.{Settings}
 use Rattle.hot_model.specs.Forces.{RowsCount, AreForces}
 use Rattle.hot_model.specs.Order.{ordered}
-use Rattle.sdf_rows.specs.Rows.{rows}
 use Rattle.body_set.specs.Sets.{SetValue, OrderedValue}
 use Rattle.hot_words.specs.Commands.{job_value}
 use Rattle.hot.specs.Places.{ArePlaced}
@@ -26,9 +25,9 @@ returns c =
     let bodies : c.bodies.result.now ≡ ordered xs = c.bodies.ensures.value ∙ ap (λ (v : OrderedValue). v.bodies) set in
     let again : c.bodies-2.result.now ≡ ordered xs = c.bodies-2.ensures.value ∙ ap (λ (v : OrderedValue). v.bodies) set in
     let found : AreForces (settings_of (job_value c.args.job.now)) (ordered xs) c.in_ok-found.found.items =
-        subst (λ (s : Settings). AreForces s (ordered xs) c.in_ok-found.found.items) settings (subst (λ (l : List BodyValue). AreForces c.in-Some.engine l c.in_ok-found.found.items) bodies c.in_ok-found.ensures.forces) in
+    subst (λ (s : Settings). AreForces s (ordered xs) c.in_ok-found.found.items) settings (subst (λ (l : List BodyValue). AreForces c.in-Some.engine l c.in_ok-found.found.items) bodies c.in_ok-found.ensures.forces) in
     let placed : ArePlaced (ordered xs) c.in_ok-found.found.items c.in_ok-forces.forces.items =
-        subst (λ (l : List BodyValue). ArePlaced l c.in_ok-found.found.items c.in_ok-forces.forces.items) again (subst (λ (r : List Acc3Value). ArePlaced c.bodies-2.result.now r c.in_ok-forces.forces.items) c.deref.ensures.value c.in_ok-forces.ensures) in
+    subst (λ (l : List BodyValue). ArePlaced l c.in_ok-found.found.items c.in_ok-forces.forces.items) again (subst (λ (r : List Acc3Value). ArePlaced c.bodies-2.result.now r c.in_ok-forces.forces.items) c.deref.ensures.value c.in_ok-forces.ensures) in
     record {
       idents = ap (λ (v : OrderedValue). v.idents) set;
       forces = forces_back (settings_of (job_value c.args.job.now)) xs c.in_ok-found.found.items c.in_ok-forces.forces.items count found placed;

@@ -1,7 +1,7 @@
-use Rattle.std.proofs.Common.{◌≡◌, ℕ, List, refl, sym, ap, ◌∙◌, subst}
+use Rattle.std.proofs.Common.{◌≡◌, ℕ, List, refl, sym, ap, subst}
 use Rattle.hot_io.specs.Reading.{unread, Stands}
 use Rattle.hot.specs.Jobs.{file_of, file_named}
-use Rattle.hot.proofs.Outcomes.{holds_refused, holds_stopped, holds_answered, holds_starved}
+use Rattle.hot.proofs.Outcomes.{holds_refused, holds_stopped, holds_answered}
 use Rattle.hot.proofs.prepare.prepare.Goals as goal
 
 pub returns-in-Err : goal.returns-in-Err
