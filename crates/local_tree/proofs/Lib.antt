@@ -1,0 +1,6 @@
+pub mod Searches
+pub mod Running
+pub mod Records
+pub mod Kids
+pub mod Fronts
+pub mod Hints
