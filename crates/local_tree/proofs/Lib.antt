@@ -3,4 +3,5 @@ pub mod Running
 pub mod Records
 pub mod Kids
 pub mod Fronts
+pub mod Growing
 pub mod Hints

@@ -54,6 +54,9 @@ fn keeps_out(cell: u64, neighbour: Option<u64>) -> bool
 }
 
 impl LocalTree {
+    /// The tree of a piece: of bodies in order by key and row, fewer than 2^32 and with a mass of at most 2^40 together.
+    /// `left` and `right` are the nearest keys of other bodies on either side, if there are any; `leaf` is the number of
+    /// bodies up to which a cell is a leaf. A refusal is want of memory; the tree takes at most 288 bytes a body.
     pub fn build(
         alloc: Global,
         piece: &[Body],
@@ -144,6 +147,9 @@ impl LocalTree {
         Some(record_between(key, (to - from) as u32, before, after))
     }
 
+    /// The record of a cell over the bodies of the piece: their count and mass, and the sums of mass times coordinate. None
+    /// exactly where the piece has no body there. A cell that a walk meets is found by one binary search in a table, any
+    /// other by two among the bodies, and no body is summed. It takes no memory.
     pub fn rec(&self, key: u64) -> Option<CellRec>
         requires cell { IsCell key }
         ensures value { result ≡ trees.record_at self.now.bodies key }
@@ -154,6 +160,8 @@ impl LocalTree {
         }
     }
 
+    /// Whether a cell is the piece's own: it has a body of the piece, and contains neither neighbouring key. It takes no
+    /// memory.
     pub fn is_home(&self, key: u64) -> bool
         requires cell { IsCell key }
         ensures value { result ≡ homes.is_home self.now.bodies self.now.left self.now.right key }
@@ -165,6 +173,8 @@ impl LocalTree {
         keeps_out(key, self.left) && keeps_out(key, self.right)
     }
 
+    /// The body of the piece at a place, counted from 0, among those in a cell, in order; None exactly past the last. It
+    /// takes no memory.
     pub fn body(&self, key: u64, i: u32) -> Option<Body>
         requires cell { IsCell key }
         ensures value { result ≡ slice_get (trees.inside self.now.bodies key) i }
@@ -174,6 +184,9 @@ impl LocalTree {
         own.get(i as usize).copied()
     }
 
+    /// What the piece answers for one of its own cells: the bodies, in order, where there are at most as many as the leaf
+    /// limit or the cell is of level 21, else the records of the children that have bodies, by ascending key. A refusal is
+    /// want of memory.
     pub fn answer(&self, key: u64) -> Result<Answer, AllocError>
         requires cell { IsCell key }
         requires home { homes.is_home self.now.bodies self.now.left self.now.right key ≡ true }
@@ -202,6 +215,8 @@ impl LocalTree {
         Ok(list)
     }
 
+    /// The records of the piece's branches, the outermost of its own cells (Warren and Salmon, 1993), by ascending key, so
+    /// level by level. One pass over the bodies a level. A refusal is want of memory.
     pub fn branches(&self) -> Result<RecList, AllocError>
         ensures value { IfOk result (λ l. l ≡ homes.home_branches self.now.bodies self.now.left self.now.right) }
     {
