@@ -1,6 +1,7 @@
 ghost use Rattle.std.specs.Prelude.{◌≡◌, ◌+◌, ◌<◌, ◌≤◌, ◌^◌, length, slice_range};
 ghost use Rattle.hot_model.specs.Limits.{max_level};
 ghost use Rattle.hot_model.specs.Keys.{IsCell};
+ghost use Rattle.hot_model.specs.Keys as keys;
 ghost use Rattle.hot_model.specs.Branches as branches;
 ghost use Rattle.hot_model.specs.Trees as trees;
 ghost use Rattle.hot_model.specs.Order.{IsInOrder};
@@ -50,4 +51,15 @@ pub fn front(key: u64, level: u32) -> u64
     ensures value { result ≡ branches.front level key }
 {
     key >> (3 * (MAX_LEVEL - level))
+}
+
+/// The child of a cell by its digit.
+pub fn child_of(key: u64, digit: u64) -> u64
+    requires cell { IsCell key }
+    requires upper { keys.level key < max_level }
+    requires digit { digit < 8 }
+    ensures value { result ≡ trees.child key digit }
+    ensures cell { IsCell result }
+{
+    8 * key + digit
 }

@@ -10,7 +10,7 @@ ghost use Rattle.hot_model.specs.Answers as answers;
 ghost use Rattle.morton_key.specs.Ranges.{IsBodyKey};
 
 use crate::list::{listed, push_some};
-use crate::places::{front, places};
+use crate::places::{child_of, front, places};
 use crate::record::find;
 use crate::sums::{Sums, record_between, running};
 use hot_model::limits::MAX_LEVEL;
@@ -41,6 +41,12 @@ impl Model for LocalTree {
     ghost invariant = { λ t. IsLocal t.bodies.items t.sums.items t.recs.items t.left t.right };
 }
 
+/// At most so many records a body stand in the table.
+const RECORDS: usize = 2;
+
+// a body, its sums and its records
+const _: () = prove!(size_of::<Body>() + size_of::<Sums>() + RECORDS * size_of::<CellRec>() <= 288);
+
 /// Whether a cell does not contain a neighbouring key, if there is one.
 fn keeps_out(cell: u64, neighbour: Option<u64>) -> bool
     requires cell { IsCell cell }
@@ -56,7 +62,7 @@ fn keeps_out(cell: u64, neighbour: Option<u64>) -> bool
 impl LocalTree {
     /// The tree of a piece: of bodies in order by key and row, fewer than 2^32 and with a mass of at most 2^40 together.
     /// `left` and `right` are the nearest keys of other bodies on either side, if there are any; `leaf` is the number of
-    /// bodies up to which a cell is a leaf. A refusal is want of memory; the tree takes at most 288 bytes a body.
+    /// bodies up to which a cell is a leaf. A refusal is want of memory; the tree takes 288 bytes a body.
     pub fn build(
         alloc: Global,
         piece: &[Body],
@@ -73,10 +79,11 @@ impl LocalTree {
     {
         let sums = running(alloc, piece)?;
         let bodies = Vec::from_slice(alloc, piece)?;
+        let recs = Vec::with_capacity(alloc, RECORDS * piece.len())?;
         let mut tree = LocalTree {
             bodies,
             sums,
-            recs: Vec::new(alloc),
+            recs,
             left,
             right,
             leaf,
@@ -87,12 +94,12 @@ impl LocalTree {
     }
 
     /// Puts into the table the records of the cells of more bodies than the leaf limit and of their children, level by
-    /// level and each level by ascending key, up to one record a body.
+    /// level and each level by ascending key, up to two records a body.
     fn fill(&mut self) -> Result<(), AllocError>
         ensures kept { self.new ≡ self.old }
     {
         self.keep(1)?;
-        for k in 0..self.bodies.len() {
+        for k in 0..RECORDS * self.bodies.len() {
             if k >= self.recs.len() {
                 return Ok(());
             }
@@ -111,17 +118,17 @@ impl LocalTree {
         ensures kept { self.new ≡ self.old }
     {
         for digit in 0..8u64 {
-            self.keep(8 * key + digit)?;
+            self.keep(child_of(key, digit))?;
         }
         Ok(())
     }
 
-    /// Puts the record of a cell with bodies into the table, while it has fewer records than there are bodies.
+    /// Puts the record of a cell with bodies into the table, while there is room.
     fn keep(&mut self, key: u64) -> Result<(), AllocError>
         requires cell { IsCell key }
         ensures kept { self.new ≡ self.old }
     {
-        if self.recs.len() >= self.bodies.len() {
+        if self.recs.len() >= RECORDS * self.bodies.len() {
             return Ok(());
         }
         match self.summed(key) {
@@ -210,7 +217,7 @@ impl LocalTree {
     {
         let mut list = RecList::new(self.alloc);
         for digit in 0..8u64 {
-            push_some(&mut list, self.rec(8 * key + digit))?;
+            push_some(&mut list, self.rec(child_of(key, digit)))?;
         }
         Ok(list)
     }
