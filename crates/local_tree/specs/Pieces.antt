@@ -1,5 +1,6 @@
 -- A piece: a run of the bodies in key order, and what stands beside it.
 use Rattle.std.specs.Prelude.{ℕ, ◌≡◌, ◌<◌, ◌≤◌, ◌^◌, List, length, Option, Some, IfSome, All}
+use Rattle.std.specs.List.Sorted.{IsNonDecreasingBy}
 use Rattle.hot_model.specs.Limits.{max_all_mass}
 use Rattle.hot_model.specs.Values.{BodyValue, CellValue}
 use Rattle.hot_model.specs.Trees.{mass_of, record_at}
@@ -16,7 +17,7 @@ pub record PieceValue : Type 0 where
   pub right : Option ℕ
   pub leaf : ℕ
 
--- what a tree of a piece keeps: bodies in order, their running sums, the neighbours' keys, and true records
+-- what a tree of a piece keeps: bodies in order, their running sums, the neighbours' keys, and true records by ascending key
 pub record IsLocal (bodies : List BodyValue) (sums : List Sums) (recs : List CellValue) (left right : Option ℕ) : Type 0 where
   pub sound : All IsBody bodies
   pub in_order : IsInOrder bodies
@@ -25,4 +26,5 @@ pub record IsLocal (bodies : List BodyValue) (sums : List Sums) (recs : List Cel
   pub left_is : IfSome left IsBodyKey
   pub right_is : IfSome right IsBodyKey
   pub summed : IsSummed sums bodies
+  pub rising : IsNonDecreasingBy (λ r. r.key) recs
   pub known : All (λ r. record_at bodies r.key ≡ Some r) recs

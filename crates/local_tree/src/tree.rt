@@ -11,7 +11,7 @@ ghost use Rattle.morton_key.specs.Ranges.{IsBodyKey};
 
 use crate::list::{listed, push_some};
 use crate::places::{child_of, front, places};
-use crate::record::find;
+use crate::record::{find, is_greater};
 use crate::sums::{Sums, record_between, running};
 use hot_model::limits::MAX_LEVEL;
 use hot_model::{Answer, Body, CellRec, RecList, covers, level};
@@ -123,12 +123,15 @@ impl LocalTree {
         Ok(())
     }
 
-    /// Puts the record of a cell with bodies into the table, while there is room.
+    /// Puts the record of a cell with bodies into the table, behind records of smaller keys, while there is room.
     fn keep(&mut self, key: u64) -> Result<(), AllocError>
         requires cell { IsCell key }
         ensures kept { self.new ≡ self.old }
     {
         if self.recs.len() >= RECORDS * self.bodies.len() {
+            return Ok(());
+        }
+        if !is_greater(&self.recs, key) {
             return Ok(());
         }
         match self.summed(key) {
