@@ -1,4 +1,4 @@
-ghost use Rattle.std.specs.Prelude.{◌≡◌, ◌≢◌, ◌<◌, ◌≤◌, ◌-◌, ℕ, length, slice_index_or, All, IsTrue, MatchOption};
+ghost use Rattle.std.specs.Prelude.{◌≡◌, ◌≢◌, ◌<◌, ◌≤◌, ◌-◌, ◌↔◌, ℕ, length, slice_index_or, All, IsTrue, MatchOption};
 ghost use Rattle.std.specs.List.Sorted.{IsNonDecreasingBy};
 ghost use Rattle.hot_model.specs.Values.{CellValue};
 
@@ -30,7 +30,7 @@ pub fn find(recs: &[CellRec], key: u64) -> Option<CellRec>
 
 /// Whether a key is greater than that of the last record of a list, if there is one.
 pub fn is_greater(recs: &[CellRec], key: u64) -> bool
-    ensures value { IsTrue result → (d : CellValue) → 0 < length recs.now → (slice_index_or recs.now (length recs.now - 1) d).key < key }
+    ensures value { IsTrue result ↔ ((d : CellValue) → 0 < length recs.now → (slice_index_or recs.now (length recs.now - 1) d).key < key) }
 {
     if recs.is_empty() {
         return true;

@@ -14,7 +14,7 @@ invariant_of-self-in-Some c =
     let made = rw (← bodies) at c.in-Some.ensures.value in
     let key = key-of-record xs c.args.key r made in
     let yes : IsTrue c.is_greater.result = search rules in
-    let greater : (d : CellValue) → 0 < length recs → key_in (get_or recs (length recs - 1) d) < c.args.key = rw c.deref.ensures.value at (c.is_greater.ensures.value yes) in
+    let greater : (d : CellValue) → 0 < length recs → key_in (get_or recs (length recs - 1) d) < c.args.key = rw c.deref.ensures.value at (c.is_greater.ensures.value.0 yes) in
     record {
       sound = c.self.invariant.sound;
       in_order = c.self.invariant.in_order;
