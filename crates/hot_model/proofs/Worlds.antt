@@ -58,13 +58,13 @@ pub inside_in_order : (w : World) (c : ℕ) → IsGood w → IsInOrder (bodies_i
 inside_in_order w c g = in_order_filter (contains c) w.bodies g.in_order
 
 -- sums over bodies that have a mass and stand in the cube
-count_mass : (xs : List BodyValue) → All IsBody xs → length xs ≤ mass_of xs
+pub count_mass : (xs : List BodyValue) → All IsBody xs → length xs ≤ mass_of xs
 count_mass [] h = omega arith
 count_mass (x ∷ xs) h =
     let b = All-head IsBody x xs h in
     omega (arith, b.weighs, count_mass xs (All-tail IsBody x xs h), sum_by-cons mass_of_body x xs)
 
-mass_count : (xs : List BodyValue) → All IsBody xs → 1 ≤ mass_of xs → 1 ≤ length xs
+pub mass_count : (xs : List BodyValue) → All IsBody xs → 1 ≤ mass_of xs → 1 ≤ length xs
 mass_count [] h m = absurd (omega (arith, m))
 mass_count (x ∷ xs) h m = omega arith
 
@@ -74,7 +74,7 @@ moment m n h =
     let e : n + d ≡ 2 ^ 29 - 1 = omega (arith, h) in
     subst (λ (z : ℕ). m * n ≤ m * z) e (omega arith)
 
-moments : (f : BodyValue → ℕ) → ((b : BodyValue) → IsBody b → f b < 2 ^ 29) → (xs : List BodyValue) → All IsBody xs → sum_by (λ b. b.mass * f b) xs ≤ mass_of xs * (2 ^ 29 - 1)
+pub moments : (f : BodyValue → ℕ) → ((b : BodyValue) → IsBody b → f b < 2 ^ 29) → (xs : List BodyValue) → All IsBody xs → sum_by (λ b. b.mass * f b) xs ≤ mass_of xs * (2 ^ 29 - 1)
 moments f g [] h = omega arith
 moments f g (x ∷ xs) h =
     let p = moment x.mass (f x) (g x (All-head IsBody x xs h)) in

@@ -1,0 +1,26 @@
+-- What a piece and its two neighbouring keys tell of all bodies.
+use Rattle.std.specs.Prelude.{ℕ, ◌≡◌, ◌<◌, ◌↔◌, true, length}
+use Rattle.hot_model.specs.Keys.{IsCell}
+use Rattle.hot_model.specs.Trees.{inside, cell_record}
+use Rattle.hot_model.specs.World.{World, IsGood, piece, left_of, right_of, bodies_in}
+use Rattle.hot_model.specs.Branches.{IsOfRank, branch_records}
+use Rattle.hot_model.specs.Answers.{answer_at, true_answer}
+use Rattle.hot_model.specs.Homes.{is_home, home_branches}
+
+-- a cell is a rank's own by its piece exactly where it has bodies and all of them are of the rank
+abbrev pub HomesAreOwn : Type 0
+HomesAreOwn = (w : World) (q c : ℕ) → IsGood w → IsCell c → (is_home (piece w q) (left_of w q) (right_of w q) c ≡ true) ↔ ((0 < length (bodies_in w c)) × IsOfRank w q c)
+
+-- what a piece has of a cell whose bodies are all of the rank is what there is of it
+pub record IsWhole (w : World) (q c : ℕ) : Type 0 where
+  pub bodies : inside (piece w q) c ≡ bodies_in w c
+  pub sums : cell_record (piece w q) c ≡ cell_record w.bodies c
+  pub answer : answer_at w.leaf (piece w q) c ≡ true_answer w c
+
+-- this holds of every such cell
+abbrev pub OwnCellsAreWhole : Type 0
+OwnCellsAreWhole = (w : World) (q c : ℕ) → IsCell c → IsOfRank w q c → IsWhole w q c
+
+-- the outermost own cells of a piece are the branches of its rank, with their records over all bodies
+abbrev pub HomesGiveBranches : Type 0
+HomesGiveBranches = (w : World) (q : ℕ) → IsGood w → home_branches (piece w q) (left_of w q) (right_of w q) ≡ branch_records w q

@@ -1,0 +1,19 @@
+ghost use Rattle.local_tree.specs.Laws as laws;
+
+/// A piece knows its own cells by its two neighbouring keys: a cell is its own exactly where it has bodies and all of
+/// them, among all bodies, are in the piece.
+pub fn homes_are_own()
+    ensures law { laws.HomesAreOwn }
+{}
+
+/// Of a cell whose bodies are all in one piece, the piece gives the bodies, the record and the answer that the tree over
+/// all bodies gives.
+pub fn own_cells_are_whole()
+    ensures law { laws.OwnCellsAreWhole }
+{}
+
+/// The outermost own cells of a piece are the branch cells of its rank (Warren and Salmon, 1993), each with its record
+/// over all bodies.
+pub fn homes_give_branches()
+    ensures law { laws.HomesGiveBranches }
+{}

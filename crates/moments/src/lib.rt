@@ -1,0 +1,10 @@
+//! Records of cells as sums: none, one body, and one record added to another. Nothing here takes memory.
+#![tactic(auto)]
+
+mod laws;
+mod sums;
+#[cfg(test)]
+mod tests;
+
+pub use laws::sums_join;
+pub use sums::{add, empty, of_body};

@@ -1,0 +1,30 @@
+use crate::{add, empty, of_body};
+use hot_model::{Body, CellRec, body_of};
+
+/// A record as count, mass and the three sums.
+fn numbers(rec: &CellRec) -> (u32, u64, u128, u128, u128) {
+    (rec.count, rec.mass, rec.sx, rec.sy, rec.sz)
+}
+
+/// The record of the root with one body, or with none where the numbers are out of range.
+#[tactic(auto, using(crate::proofs::Hints::on_roots))]
+fn of_place(x: u32, y: u32, z: u32, mass: u32) -> CellRec {
+    match body_of(x, y, z, mass, 0) {
+        Some(b) => of_body(1, &b),
+        None => empty(1),
+    }
+}
+
+#[test]
+fn sums_of_two_bodies(rt: HostRuntime) {
+    assert_eq!(rt; numbers(&empty(8)), (0, 0, 0, 0, 0));
+    assert_eq!(rt; numbers(&of_place(5, 7, 11, 2)), (1, 2, 10, 14, 22));
+    let mut both = of_place(0, 0, 0, 1);
+    let far = of_place(1024, 0, 0, 3);
+    if both.count == 1 && far.count == 1 && both.mass < 8 && far.mass < 8 {
+        add(&mut both, &far);
+    }
+    assert_eq!(rt; numbers(&both), (2, 4, 3072, 0, 0));
+    assert_eq!(rt; both.key, 1);
+    assert_eq!(rt; both.centre(), [768, 0, 0]);
+}
