@@ -18,13 +18,14 @@ use hot_io::{Sink, Source};
 use hot_words::WordList;
 use std::alloc::Global;
 
-/// Does what the words say: reads the bodies of a file from standard input, computes the force of gravity on each of
-/// them by the recursive walk of one tree over all (Barnes and Hut, 1986; Warren and Salmon, 1993), and prints the
-/// forces to `out`, in units of 2^-40 of mass over squared fine distance.
+/// Does what the words say: reads the bodies of the file that they name, computes the force of gravity on each of them
+/// by the recursive walk of one tree over all (Barnes and Hut, 1986; Warren and Salmon, 1993), and prints the forces to
+/// `out`, in the order of the file, each behind its ident, in units of 2^-40 of mass over squared fine distance.
 ///
-/// A refusal prints nothing there and one line to `err`. The words are read first, then the whole file, at most
-/// 4,096 bytes at a time and not past the longest file by more than that; all memory is taken before the first write.
-/// The status says how the call ends, and `Memory` is the one that may come anywhere but at refused words.
+/// Refusals come in the order words, opening, header, rows; each prints nothing to `out` and one line to `err`. The file
+/// is read at most 4,096 bytes at a time, and no further once the bytes decide a fault: at most 268,506,111 bytes are
+/// taken of any source, and a read fault is answered only where the bytes before it decide no fault. All memory is taken
+/// before the first write, and `Memory` is the one status that may come anywhere but at refused words.
 pub fn hot_main<S: Source, O: Sink, E: Sink>(
     alloc: Global,
     words: &WordList,
@@ -46,10 +47,10 @@ pub fn hot_main<S: Source, O: Sink, E: Sink>(
         × Gained (E.written err.old) (E.written err.new) (E.faults err.old) (E.faults err.new) run.err
         × IsAnswered run result }
 
-    // Status 2 comes exactly where the words are refused and the error sink takes the line.
+    // Status 2 comes exactly where the words give no run and the error sink takes the line.
     ensures refused_words { (result ≡ Status.Words) ↔ (IsErr (job_of words.now) × (E.faults err.new ≡ 0)) }
 
-    // Status 4 comes exactly where the words are good, the source fails and the error sink takes the line.
+    // Status 4 comes exactly where the words are good, opening or reading fails and the error sink takes the line.
     ensures read_fault { (result ≡ Status.ReadFault) ↔ (IsOk (job_of words.now) × (0 < S.faults source.new) × (E.faults err.new ≡ 0)) }
 
     // Every refusal and want of memory leave the output as it was.
