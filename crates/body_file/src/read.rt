@@ -25,8 +25,8 @@ use std::alloc::Global;
 /// `Memory` may come at any growth.
 ///
 /// A read asks for at most 4,096 bytes. What is kept beside the bodies is that piece, the header until it ends, and a row
-/// that goes on. At most 268,506,111 bytes are taken, whatever the source gives: once a header of 65,536 bytes and 262,145
-/// rows of 1,024 bytes are there, some fault is decided, and that in a last piece.
+/// that goes on. At most 268,506,111 bytes are taken, whatever the source gives: a header of 65,536 bytes and 262,145 rows
+/// of 1,024 bytes always decide a fault, and the last read may reach beyond them by one byte less than a piece.
 pub fn read_bodies<S: Source>(
     alloc: Global,
     source: &mut S,
