@@ -68,17 +68,17 @@ number_small k few = min-eq_left (omega (arith, few))
 -- the reader of rows knows how many bytes it was given
 pub fed_length : (l : LayoutValue) (bytes : List ℕ) → 1 ≤ l.width → rows_fault false l bytes ≡ None → (reader_behind l bytes).given * l.width + length (reader_behind l bytes).held ≡ length bytes
 fed_length l bytes wide good = elim (cases_Bool (is_full l bytes)) [
-    | inl full ↦
-        let few = number_small (rows_in l (length bytes)) (rows_few l bytes good) in
-        let all = full_length l.count l.width (length bytes) full (none_beyond_now l bytes good) in
-        rw (full, few) (omega (arith, all))
-    | inr lacks ↦
-        let few = number_small (rows_in l (length bytes)) (rows_few l bytes good) in
-        let all = all_counted l.count l.width (length bytes) lacks in
-        let part = part_length l bytes in
-        let there = rows_lie (length bytes) l.width in
-        rw (lacks, few, all) (omega (arith, part, there))
-  ]
+  | inl full ↦
+      let few = number_small (rows_in l (length bytes)) (rows_few l bytes good) in
+      let all = full_length l.count l.width (length bytes) full (none_beyond_now l bytes good) in
+      rw (full, few) (omega (arith, all))
+  | inr lacks ↦
+      let few = number_small (rows_in l (length bytes)) (rows_few l bytes good) in
+      let all = all_counted l.count l.width (length bytes) lacks in
+      let part = part_length l bytes in
+      let there = rows_lie (length bytes) l.width in
+      rw (lacks, few, all) (omega (arith, part, there))
+]
 
 -- rows without a fault end within the row behind the last that a file may have
 pub rows_short : (l : LayoutValue) (bytes : List ℕ) → 1 ≤ l.width → l.width ≤ max_row_bytes → rows_fault false l bytes ≡ None → length bytes < (max_bodies + 1) * max_row_bytes

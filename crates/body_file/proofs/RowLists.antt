@@ -37,7 +37,7 @@ unfolding first_refused
 refused_push cube raws raw =
     let e : 0 + length raws ≡ length raws = omega arith in
     subst (λ (n : ℕ). first_refused cube 0 (raws ++ raw ∷ []) ≡ first_of (first_refused cube 0 raws) (row_fault cube n raw)) e
-        (refused_append cube 0 raws (raw ∷ []) ∙ ap (first_of (first_refused cube 0 raws)) (first_alone (row_fault cube (0 + length raws) raw)))
+    (refused_append cube 0 raws (raw ∷ []) ∙ ap (first_of (first_refused cube 0 raws)) (first_alone (row_fault cube (0 + length raws) raw)))
 
 -- ---- the whole rows of bytes
 

@@ -38,14 +38,14 @@ taken_by false n w row step e = cc
 ok_by : (full : Bool) (n w : ℕ) (row : RawRow) (step : RowStep) → answer_by full (nat_lt n w) n w row ≡ Ok step → (full ≡ false) × ((step.taken ≡ n) ⊎ (step.taken ≡ w)) × (step.taken ≤ w)
 ok_by true n w row step e = absurd cc
 ok_by false n w row step e = elim (cases_Bool (nat_lt n w)) [
-    | inl short ↦
-        let less = ltb-true n w short in
-        let same : step.taken ≡ n = taken_by true n w row step (rw short at e) in
-        (refl, inl same, omega (arith, same, less))
-    | inr long ↦
-        let same : step.taken ≡ w = taken_by false n w row step (rw long at e) in
-        (refl, inr same, omega (arith, same))
-  ]
+  | inl short ↦
+      let less = ltb-true n w short in
+      let same : step.taken ≡ n = taken_by true n w row step (rw short at e) in
+      (refl, inl same, omega (arith, same, less))
+  | inr long ↦
+      let same : step.taken ≡ w = taken_by false n w row step (rw long at e) in
+      (refl, inr same, omega (arith, same))
+]
 
 err_by : (full short : Bool) (n w : ℕ) (row : RawRow) (fault : RowFault) → answer_by full short n w row ≡ Err fault → (full ≡ true) × (fault ≡ Trailing)
 err_by true short n w row fault e = (refl, cc)
@@ -111,7 +111,6 @@ pub record Stepped (l : LayoutValue) (r : RowsValue) (bytes piece : List ℕ) (s
   pub behind : IsBehind r (bytes ++ take step.taken piece)
   pub grown : rows l (bytes ++ take step.taken piece) ≡ rows l bytes ++ row_list step.row
 
-
 -- no byte too many was taken
 within_step : (l : LayoutValue) (bytes piece : List ℕ) (t : ℕ) → 1 ≤ l.width → is_full l bytes ≡ false → t ≤ wanted l bytes → end_fault false l (bytes ++ take t piece) ≡ None
 within_step l bytes piece t wide lacks few =
@@ -174,7 +173,7 @@ step_refused l r r' set bytes piece step raw f at s given bad more ended =
     let wide : 1 ≤ l.width = at.sound.some_bytes in
     ap (rows_fault ended l) (split_piece bytes piece more step.taken)
     ∙ refused_stays l (bytes ++ take step.taken piece) (drop step.taken piece ++ more) ended f wide
-        (ap (first_refused l.cube 0) grown ∙ next_fault l set (rows l bytes) raw (Some f) at.bodies (rows_good l bytes at.good) bad)
+    (ap (first_refused l.cube 0) grown ∙ next_fault l set (rows l bytes) raw (Some f) at.bodies (rows_good l bytes at.good) bad)
 
 -- ---- the answers of the reader of rows
 

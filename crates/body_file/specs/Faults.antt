@@ -41,7 +41,7 @@ fault_in (Refused fault) = Some fault
 fault_in Memory = None
 fault_in _ = None
 
--- the fault of the file in what a row is refused for
+-- the fault of a file for which a row of it is refused
 abbrev pub named : Option PushError → Option FileFault
 named None = None
 named (Some error) = fault_in (row_error error)
@@ -50,7 +50,7 @@ named (Some error) = fault_in (row_error error)
 abbrev pub row_fault : CubeValue → ℕ → RawRow → Option FileFault
 row_fault cube k raw = named (first_fault cube k raw)
 
--- the first fault of rows that are numbered from k on
+-- the first fault among rows that are numbered from k on
 unfoldable pub first_refused : CubeValue → ℕ → List RawRow → Option FileFault
 first_refused cube k [] = None
 first_refused cube k (raw ∷ raws) = first_of (row_fault cube k raw) (first_refused cube (suc k) raws)
@@ -67,7 +67,7 @@ abbrev pub end_fault : Bool → LayoutValue → List ℕ → Option FileFault
 end_fault true l bytes = ended_by (ending l bytes)
 end_fault false l bytes = if is_beyond_at l.count l.width (length bytes) then Some (End Trailing) else None
 
--- the fault that the bytes behind the header decide: the first of their whole rows, and else how they end
+-- the fault that the bytes behind the header decide: that of the first whole row at fault, or else that of how they end
 abbrev pub rows_fault : Bool → LayoutValue → List ℕ → Option FileFault
 rows_fault ended l bytes = first_of (first_refused l.cube 0 (rows l bytes)) (end_fault ended l bytes)
 
@@ -79,17 +79,18 @@ is_known ended (Faulty fault) = true
 is_known ended (Ends text len) = true
 is_known ended Open = ended
 
--- the fault behind this verdict of the header
+-- the fault of a file whose header has this verdict
 abbrev pub fault_by : Bool → List ℕ → Result LayoutValue HeaderFault → Option FileFault
 fault_by ended bytes (Err fault) = Some (Header fault)
 fault_by ended bytes (Ok l) = rows_fault ended l (drop l.header_len bytes)
 
--- the fault that the bytes of a file decide, where `ended` says that these are all: that of the header, and else that
--- of the rows
+-- the fault that these bytes of a file decide: that of the header, or else that of the rows; `ended` says that no more
+-- follow
 unfoldable pub decided : Bool → List ℕ → Option FileFault
 decided ended bytes = if is_known ended (extent bytes) then fault_by ended bytes (verdict bytes) else None
 
--- The bytes decide this fault: they are all and have it, or whatever follows and wherever that ends, the file has it.
+-- The bytes decide this fault: they are the whole file and have it, or the file has it whatever follows and wherever it
+-- ends.
 abbrev pub Decides : Bool → List ℕ → FileFault → Type 0
 Decides true bytes fault = decided true bytes ≡ Some fault
 Decides false bytes fault = (more : List ℕ) (ended : Bool) → decided ended (bytes ++ more) ≡ Some fault

@@ -21,12 +21,12 @@ pub record HasBodies (bytes : List ℕ) (set : SetValue) : Type 0 where
 abbrev pub piece_bytes : ℕ
 piece_bytes = 4096
 
--- so many bytes always decide a fault: the longest header, and one row more than a file may have, each of the longest
+-- so many bytes always decide a fault: the longest header, and the longest rows, one more than a file may have
 abbrev pub read_limit : ℕ
 read_limit = max_header_bytes + (max_bodies + 1) * max_row_bytes
 
--- The reading stood still once a fault was decided: what came before the last read decided none, and that read gave at
--- most one piece. So no more was taken than one piece behind the limit.
+-- The reading stopped once a fault was decided: the bytes before the last read decided none, and that read gave at most
+-- one piece. So what was taken lies below the limit and one piece.
 pub record IsPrompt (input : Reading) : Type 0 where
   pub front : List ℕ
   pub last : List ℕ
@@ -42,7 +42,7 @@ pub record ReadsBodies (input : Reading) (set : SetValue) : Type 0 where
   pub has : HasBodies bytes set
 
 -- why no bodies were read: the source failed, and the bytes before that decide no fault; or the bytes taken decide this
--- one; or want of memory
+-- fault; or memory ran out
 abbrev pub Stopped : Reading → ReadError → Type 0
 Stopped input Broken = (has_failed input ≡ true) × (decided false (taken input) ≡ None)
 Stopped input (Refused fault) = (has_failed input ≡ false) × Decides (has_ended input) (taken input) fault

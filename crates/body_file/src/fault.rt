@@ -9,10 +9,10 @@ use sdf_rows::RowFault;
 use std::alloc::AllocError;
 use thiserror::Error;
 
-/// Why a row gives no body. `row` is its number, counted from 0.
+/// Why a row gives no body, in the order of the tests. `row` is its number, counted from 0.
 #[derive(Clone, Copy, Debug, PartialEq, Eq)]
 pub enum BodyFault {
-    /// The file has more than 262,144 rows.
+    /// The row is the 262,145th, one more than a file may have.
     TooMany,
     /// The place is outside the cube on this axis, and on no earlier one.
     Outside { row: u32, axis: Axis },
@@ -22,7 +22,8 @@ pub enum BodyFault {
     WorkRange { row: u32 },
 }
 
-/// Why a file is refused: for its header, for a row, or for how its rows end.
+/// Why a file is refused, in the order of the tests: for its header, for a row, or for how its rows end, within a row or
+/// with bytes too many.
 #[derive(Clone, Copy, Debug, PartialEq, Eq)]
 pub enum FileFault {
     Header(HeaderFault),
@@ -30,13 +31,13 @@ pub enum FileFault {
     End(RowFault),
 }
 
-/// Why no bodies were read.
+/// Why no bodies were read: the source, the file, or memory.
 #[derive(Debug, Drop, Error)]
 pub enum ReadError {
-    /// The source failed before the bytes decided a fault.
+    /// The source failed, and the bytes taken before that decide no fault.
     #[error("read fault")]
     Broken,
-    /// The file is refused.
+    /// The file is refused for its first fault, which the bytes taken decide.
     #[error("the file is refused: {0:?}")]
     Refused(FileFault),
     /// Memory ran out.

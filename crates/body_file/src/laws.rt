@@ -1,4 +1,4 @@
-//! The law of files.
+//! A law of all files.
 ghost use Rattle.body_file.specs.Laws as laws;
 
 /// Each file has a verdict: a fault, or bodies.

@@ -1,4 +1,5 @@
-//! The bodies of a body file, read from a source in pieces: header, rows and checks in one pass.
+//! The bodies of a body file, read from a source in pieces of at most 4,096 bytes: header, rows and checks in one pass, in
+//! which each fault is answered as soon as the bytes decide it.
 #![tactic(auto)]
 
 mod fault;
@@ -7,6 +8,8 @@ mod limits;
 mod read;
 mod reader;
 mod rows;
+#[cfg(test)]
+mod tests;
 
 pub use fault::{BodyFault, FileFault, ReadError};
 pub use laws::files_have_verdicts;

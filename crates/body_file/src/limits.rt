@@ -1,4 +1,4 @@
 //! The limits of reading.
 
-/// How many bytes one read may give.
+/// The most bytes that one read may give.
 pub const PIECE_BYTES: usize = 4096;

@@ -1,4 +1,4 @@
-//! A reader of a body file, fed in pieces.
+//! A reader of a body file that is fed in pieces, however they are cut.
 ghost use Rattle.std.specs.Prelude.{◌≡◌, ℕ, List, [], ◌++◌, true, false, All, MatchResult, IfOk};
 ghost use Rattle.sdf_rows.specs.Columns.{Is64Bits};
 ghost use Rattle.body_file.specs.Files.{HasBodies};
@@ -12,7 +12,7 @@ use sdf_header::{Fed, HeaderReader};
 use sdf_rows::Rows;
 use std::alloc::{AllocError, Global};
 
-/// A reader of a body file: of its header, and then of its rows with the bodies that they gave.
+/// A reader of a body file: first of its header, then of its rows, with the bodies that they gave so far.
 #[derive(Drop)]
 pub enum BodyReader {
     Header(HeaderReader),

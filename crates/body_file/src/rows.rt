@@ -1,6 +1,5 @@
-//! Adding the rows of a piece to the bodies.
+//! Adding the rows of a piece to the bodies, one row at a time.
 ghost use Rattle.std.specs.Prelude.{◌≤◌, ℕ, List, ◌++◌, length, take, IfOk, MatchResult};
-
 ghost use Rattle.sdf_header.specs.Layouts.{LayoutValue};
 ghost use Rattle.body_file.specs.Reading.{IsAt, PushesRow, StopsRows};
 

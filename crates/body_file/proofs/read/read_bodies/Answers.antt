@@ -24,8 +24,7 @@ pieces-init g c = record {
 
 pub returns-in_default-clause-answer : goal.returns-in_default-clause-answer
 returns-in_default-clause-answer g c =
-    let t = c.pieces.invariant.taken in
-    (
+    let t = c.pieces.invariant.taken in (
       broken t.0,
       (search rules, search rules, Consumes-kept _ _ _ t.0 t.2 c.in_default.ensures.bytes, search rules),
       prompt_now (broken t.0) c.pieces.reader t.0 t.1 refl,
@@ -34,8 +33,7 @@ returns-in_default-clause-answer g c =
 
 pub returns-then-count-eq0-clause-answer : goal.returns-then-count-eq0-clause-answer
 returns-then-count-eq0-clause-answer g c =
-    let t = c.pieces.invariant.taken in
-    (
+    let t = c.pieces.invariant.taken in (
       ended t.0,
       (search rules, search rules, end_taken _ _ _ t.0 c.read.new.buf c.in-Ok.count c.if-count-eq0.true (search rules) t.2 c.in-Ok.ensures.bytes.0 c.in-Ok.ensures.bytes.1, search rules),
       prompt_now (ended t.0) c.pieces.reader t.0 t.1 refl,
@@ -46,8 +44,7 @@ pub returns-in_err-reader-2-clause-answer : goal.returns-in_err-reader-2-clause-
 returns-in_err-reader-2-clause-answer g c =
     let t = c.pieces.invariant.taken in
     let piece = take c.in-Ok.count c.read.new.buf in
-    let p = err_from_is_err_and c.from_residual-in_err-reader-2.result c.from_residual-in_err-reader-2.ensures.1 in
-    (
+    let p = err_from_is_err_and c.from_residual-in_err-reader-2.result c.from_residual-in_err-reader-2.ensures.1 in (
       unfinished (t.0 ++ piece),
       (search rules, search rules, Consumes-trans _ _ _ t.0 piece t.2 c.in-Ok.ensures.bytes.0, search rules),
       prompt_more (unfinished (t.0 ++ piece)) c.pieces.reader t.0 piece t.1 refl (omega (arith, length-take c.in-Ok.count c.read.new.buf, c.in-Ok.ensures.bound)),
@@ -59,7 +56,7 @@ pieces-smaller g c =
     let t = c.pieces.invariant.taken in
     let piece = take c.in-Ok.count c.read.new.buf in
     nearer c.pieces.reader c.in_ok-reader-2.reader t.0 piece t.1 (c.in_ok-reader-2.ensures t.0 t.1)
-        (omega (arith, length-take c.in-Ok.count c.read.new.buf, c.in-Ok.ensures.bound, c.if-count-eq0.false))
+    (omega (arith, length-take c.in-Ok.count c.read.new.buf, c.in-Ok.ensures.bound, c.if-count-eq0.false))
 
 pub pieces-preserved : goal.pieces-preserved
 pieces-preserved g c =

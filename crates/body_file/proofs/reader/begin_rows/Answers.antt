@@ -21,8 +21,8 @@ returns-in_err-take_rows c =
     let whole = c.requires.whole in
     let begun = rows_begin c.in-Ok.layout c.new-rows.result c.new-set.result c.in-Ok.ensures.facts c.new-rows.ensures.empty (c.new-set.ensures.empty ∙ ap (λ (v : LayoutValue). empty_set v.cube) c.layout.view_is) in
     rw (p.1, p.2) (rows_stop c.in-Ok.layout c.args.header [] c.args.piece.now c.args.header c.in_err-take_rows.field-0.0
-        (record { text = whole.0; whole = whole.1; gives = c.in-Ok.ensures.value; len = c.in-Ok.ensures.header_len }) (sym (append-nil c.args.header))
-        (c.in_err-take_rows.ensures c.in-Ok.layout [] begun))
+    (record { text = whole.0; whole = whole.1; gives = c.in-Ok.ensures.value; len = c.in-Ok.ensures.header_len }) (sym (append-nil c.args.header))
+    (c.in_err-take_rows.ensures c.in-Ok.layout [] begun))
 
 pub returns : goal.returns
 returns c =

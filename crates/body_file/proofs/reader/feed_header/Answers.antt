@@ -25,7 +25,7 @@ pub returns-in-Ok-Ended : goal.returns-in-Ok-Ended
 returns-in-Ok-Ended c =
     let taken = rw c.in-Ok-Ended.field-0-is at c.in-Ok-Ended.ensures.taken in
     subst (λ b. MatchResult c.begin_rows.result (λ reader. HasTaken reader b) (Stops false b))
-        (two_pieces c.args.header c.feed.new.self c.args.piece.now c.in-Ok-Ended.taken taken) c.begin_rows.ensures
+    (two_pieces c.args.header c.feed.new.self c.args.piece.now c.in-Ok-Ended.taken taken) c.begin_rows.ensures
 
 pub returns-in-Err : goal.returns-in-Err
 returns-in-Err c =

@@ -9,7 +9,7 @@ returns-in_err-take_rows-in-Rows c = λ bytes t.
     let p = err_from_is_err_and c.from_residual.result c.from_residual.ensures.1 in
     let b = subst (λ r. HasTaken r bytes) c.in-Rows.is t in
     rw (p.1, p.2) (rows_stop b.layout b.front b.body c.args.piece.now bytes c.in_err-take_rows-in-Rows.field-0.0 b.header b.all
-        (c.in_err-take_rows-in-Rows.ensures b.layout b.body b.rows))
+    (c.in_err-take_rows-in-Rows.ensures b.layout b.body b.rows))
 
 pub returns-in_ok-take_rows-in-Rows : goal.returns-in_ok-take_rows-in-Rows
 returns-in_ok-take_rows-in-Rows c = λ bytes t.
