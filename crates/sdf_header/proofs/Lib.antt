@@ -7,3 +7,7 @@ pub mod Advances
 pub mod Bytes
 pub mod Known
 pub mod MadeHeader
+pub mod TokenList
+pub mod Machine
+pub mod Simulation
+pub mod Shorter

@@ -2,6 +2,7 @@
 pub mod Limits
 pub mod Numbers
 pub mod Tokens
+pub mod TokenList
 pub mod Types
 pub mod Parts
 pub mod Fields
