@@ -11,3 +11,5 @@ pub mod TokenList
 pub mod Machine
 pub mod Simulation
 pub mod Shorter
+pub mod Leads
+pub mod Sits

@@ -7,6 +7,7 @@ pub mod Types
 pub mod Parts
 pub mod Fields
 pub mod Statements
+pub mod Grammar
 pub mod Extent
 pub mod Layouts
 pub mod Verdict

@@ -1,7 +1,8 @@
 use Rattle.std.specs.Prelude.{[]}
 use Rattle.sdf_header.proofs.TokenList.{passed}
 use Rattle.sdf_header.proofs.Simulation.{header_goes}
-use Rattle.sdf_header.proofs.Shorter.{statement_less}
+use Rattle.sdf_header.proofs.Leads.{ends_well}
+use Rattle.sdf_header.proofs.Sits.{Sits}
 use Rattle.sdf_header.proofs.grammar_laws.header_is_statements.Goals as goal
 
 pub returns : goal.returns
