@@ -13,3 +13,4 @@ pub mod Simulation
 pub mod Shorter
 pub mod Leads
 pub mod Sits
+pub mod Faults

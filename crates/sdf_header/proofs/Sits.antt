@@ -38,11 +38,11 @@ pub are_statements-one : (ss : List Statement) (s : Statement) → AreStatements
 are_statements-one [] s are is = (is, tt)
 are_statements-one (s' ∷ ss) s are is = (are.0, are_statements-one ss s are.1 is)
 
-are_lines-one : (ls : List FieldLine) (l : FieldLine) → AreLines ls → IsType l.type × AreItems l.earlier × IsLength l.last.length → AreLines (ls ++ l ∷ [])
+pub are_lines-one : (ls : List FieldLine) (l : FieldLine) → AreLines ls → IsType l.type × AreItems l.earlier × IsLength l.last.length → AreLines (ls ++ l ∷ [])
 are_lines-one [] l are is = (is, tt)
 are_lines-one (l' ∷ ls) l are is = (are.0, are_lines-one ls l are.1 is)
 
-are_items-one : (items : List Item) (i : Item) → AreItems items → IsLength i.length → AreItems (items ++ i ∷ [])
+pub are_items-one : (items : List Item) (i : Item) → AreItems items → IsLength i.length → AreItems (items ++ i ∷ [])
 are_items-one [] i are is = (is, tt)
 are_items-one (i' ∷ items) i are is = (are.0, are_items-one items i are.1 is)
 
@@ -50,23 +50,23 @@ pub and_statements-one : (h : Header) (ss : List Statement) (s : Statement) → 
 and_statements-one h [] s = refl
 and_statements-one h (s' ∷ ss) s = and_statements-one (and_statement h s') ss s
 
-and_lines-one : (row : Row) (ls : List FieldLine) (l : FieldLine) → and_lines row (ls ++ l ∷ []) ≡ and_line (and_lines row ls) l
+pub and_lines-one : (row : Row) (ls : List FieldLine) (l : FieldLine) → and_lines row (ls ++ l ∷ []) ≡ and_line (and_lines row ls) l
 and_lines-one row [] l = refl
 and_lines-one row (l' ∷ ls) l = and_lines-one (and_line row l') ls l
 
-and_items-one : (kind : Kind) (row : Row) (items : List Item) (i : Item) → and_items kind row (items ++ i ∷ []) ≡ and_item kind (and_items kind row items) i
+pub and_items-one : (kind : Kind) (row : Row) (items : List Item) (i : Item) → and_items kind row (items ++ i ∷ []) ≡ and_item kind (and_items kind row items) i
 and_items-one kind row [] i = refl
 and_items-one kind row (i' ∷ items) i = and_items-one kind (and_item kind row i') items i
 
-all_fit-one : (h : Header) (ss : List Statement) (s : Statement) → AllFit h ss → Fits (and_statements h ss) s → AllFit h (ss ++ s ∷ [])
+pub all_fit-one : (h : Header) (ss : List Statement) (s : Statement) → AllFit h ss → Fits (and_statements h ss) s → AllFit h (ss ++ s ∷ [])
 all_fit-one h [] s fit fits = (fits, tt)
 all_fit-one h (s' ∷ ss) s fit fits = (fit.0, all_fit-one (and_statement h s') ss s fit.1 fits)
 
-lines_fit-one : (row : Row) (ls : List FieldLine) (l : FieldLine) → LinesFit row ls → ItemsFit l.type.kind (and_lines row ls) l.earlier × ItemFits l.type.kind (and_items l.type.kind (and_lines row ls) l.earlier) l.last → LinesFit row (ls ++ l ∷ [])
+pub lines_fit-one : (row : Row) (ls : List FieldLine) (l : FieldLine) → LinesFit row ls → ItemsFit l.type.kind (and_lines row ls) l.earlier × ItemFits l.type.kind (and_items l.type.kind (and_lines row ls) l.earlier) l.last → LinesFit row (ls ++ l ∷ [])
 lines_fit-one row [] l fit fits = (fits, tt)
 lines_fit-one row (l' ∷ ls) l fit fits = (fit.0, lines_fit-one (and_line row l') ls l fit.1 fits)
 
-items_fit-one : (kind : Kind) (row : Row) (items : List Item) (i : Item) → ItemsFit kind row items → ItemFits kind (and_items kind row items) i → ItemsFit kind row (items ++ i ∷ [])
+pub items_fit-one : (kind : Kind) (row : Row) (items : List Item) (i : Item) → ItemsFit kind row items → ItemFits kind (and_items kind row items) i → ItemsFit kind row (items ++ i ∷ [])
 items_fit-one kind row [] i fit fits = (fits, tt)
 items_fit-one kind row (i' ∷ items) i fit fits = (fit.0, items_fit-one kind (and_item kind row i') items i fit.1 fits)
 

@@ -8,6 +8,7 @@ pub mod Parts
 pub mod Fields
 pub mod Statements
 pub mod Grammar
+pub mod Faults
 pub mod Extent
 pub mod Layouts
 pub mod Verdict
