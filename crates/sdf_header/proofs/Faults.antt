@@ -79,7 +79,7 @@ continues (StructSize h row) b s = by_statement h b _ s.before (Struct s.lines N
 
 -- ---- runs in two parts
 
-goes-append : (s : State) (a b : List Token) → goes s (a ++ b) ≡ and_then (goes s a) (λ s. goes s b)
+pub goes-append : (s : State) (a b : List Token) → goes s (a ++ b) ≡ and_then (goes s a) (λ s. goes s b)
 unfolding goes
 goes-append s [] b = refl
 goes-append s (t ∷ a) b = go (step s t) (λ s. goes-append s a b)
@@ -88,7 +88,7 @@ goes-append s (t ∷ a) b = go (step s t) (λ s. goes-append s a b)
     go (Err e) ih = refl
     go (Ok s) ih = ih s
 
-spelling-append : (a b : List Token) → spelling (a ++ b) ≡ spelling a ++ spelling b
+pub spelling-append : (a b : List Token) → spelling (a ++ b) ≡ spelling a ++ spelling b
 spelling-append [] b = refl
 spelling-append (t ∷ a) b = ap (λ x. t.lexeme ∷ x) (spelling-append a b)
 

@@ -14,3 +14,4 @@ pub mod Shorter
 pub mod Leads
 pub mod Sits
 pub mod Faults
+pub mod Decided

@@ -190,15 +190,15 @@ none_some x e = absurd cc
 err_ok : {B : Type 0} (k : FaultKind) (p : ℕ) (s : State) → halt k p ≡ Ok s → B
 err_ok k p s e = absurd cc
 
-either : {A : Type 0} (b : Bool) (x y z : A) → cond b x y ≡ z → ((b ≡ true) × (x ≡ z)) ⊎ ((b ≡ false) × (y ≡ z))
+pub either : {A : Type 0} (b : Bool) (x y z : A) → cond b x y ≡ z → ((b ≡ true) × (x ≡ z)) ⊎ ((b ≡ false) × (y ≡ z))
 either true x y z e = inl (refl, e)
 either false x y z e = inr (refl, e)
 
-wanted_is : {A : Type 0} (p : ℕ) (o : Option A) (f : A → Result State Halt) (s : State) → wanted p o f ≡ Ok s → (a : A) × (o ≡ Some a) × (f a ≡ Ok s)
+pub wanted_is : {A : Type 0} (p : ℕ) (o : Option A) (f : A → Result State Halt) (s : State) → wanted p o f ≡ Ok s → (a : A) × (o ≡ Some a) × (f a ≡ Ok s)
 wanted_is p None f s e = err_ok faults.Syntax p s e
 wanted_is p (Some a) f s e = (a, refl, e)
 
-or_halt_is : {A : Type 0} (k : FaultKind) (p : ℕ) (o : Option A) (f : A → Result State Halt) (s : State) → or_halt k p o f ≡ Ok s → (a : A) × (o ≡ Some a) × (f a ≡ Ok s)
+pub or_halt_is : {A : Type 0} (k : FaultKind) (p : ℕ) (o : Option A) (f : A → Result State Halt) (s : State) → or_halt k p o f ≡ Ok s → (a : A) × (o ≡ Some a) × (f a ≡ Ok s)
 or_halt_is k p None f s e = err_ok k p s e
 or_halt_is k p (Some a) f s e = (a, refl, e)
 
@@ -208,7 +208,7 @@ lands s s1 b e sits = subst (λ s. Sits s b) (ok_is s s1 e) sits
     ok_is : (s s1 : State) → ◌≡◌ {A = Result State Halt} (Ok s) (Ok s1) → s ≡ s1
     ok_is s s1 e = cc
 
-sign_is : (s : ℕ) (x : Option Lexeme) → has s x ≡ true → x ≡ sign s
+pub sign_is : (s : ℕ) (x : Option Lexeme) → has s x ≡ true → x ≡ sign s
 sign_is s None e = absurd cc
 sign_is s (Some (Word w)) e = absurd cc
 sign_is s (Some (Number n)) e = absurd cc
@@ -216,7 +216,7 @@ sign_is s (Some Text) e = absurd cc
 sign_is s (Some (Sign t)) e = ap (λ n. sign n) (eqb-true t s e)
 sign_is s (Some End) e = absurd cc
 
-word_is : (x : Option Lexeme) (w : List ℕ) → word_in x ≡ Some w → x ≡ word w
+pub word_is : (x : Option Lexeme) (w : List ℕ) → word_in x ≡ Some w → x ≡ word w
 word_is None w e = none_some w e
 word_is (Some (Word v)) w e = ap (λ n. word n) (some_is v w e)
 word_is (Some (Number n)) w e = none_some w e
@@ -241,7 +241,7 @@ text_is (Some (Sign t)) v e = none_some v e
 text_is (Some End) v e = none_some v e
 
 -- the token that a function takes
-token_is : {A : Type 0} (f : Lexeme → Option A) (x : Option Lexeme) (a : A) → option_and_then f x ≡ Some a → (l : Lexeme) × (x ≡ Some l) × (f l ≡ Some a)
+pub token_is : {A : Type 0} (f : Lexeme → Option A) (x : Option Lexeme) (a : A) → option_and_then f x ≡ Some a → (l : Lexeme) × (x ≡ Some l) × (f l ≡ Some a)
 token_is f None a e = none_some a e
 token_is f (Some l) a e = (l, refl, e)
 
@@ -262,7 +262,7 @@ and_is : (a b : Bool) → (a && b) ≡ true → (a ≡ true) × (b ≡ true)
 and_is true b e = (refl, e)
 and_is false b e = absurd cc
 
-length_is : (l : Lexeme) (n : ℕ) → length_of l ≡ Some n → (Some l ≡ count n) × ((1 ≤ n) × (n ≤ max_array_length))
+pub length_is : (l : Lexeme) (n : ℕ) → length_of l ≡ Some n → (Some l ≡ count n) × ((1 ≤ n) × (n ≤ max_array_length))
 length_is (Word w) n e = none_some n e
 length_is (Number None) n e = none_some n e
 length_is (Number (Some (negsuc m))) n e = none_some n e
@@ -276,7 +276,7 @@ length_is Text n e = none_some n e
 length_is (Sign t) n e = none_some n e
 length_is End n e = none_some n e
 
-unsigned_is : (x : Option Lexeme) (kind : Kind) → option_and_then unsigned_type x ≡ Some kind → (w : List ℕ) × (x ≡ word w) × (type_in types true w ≡ Some kind)
+pub unsigned_is : (x : Option Lexeme) (kind : Kind) → option_and_then unsigned_type x ≡ Some kind → (w : List ℕ) × (x ≡ word w) × (type_in types true w ≡ Some kind)
 unsigned_is None kind e = none_some kind e
 unsigned_is (Some (Word w)) kind e = (w, refl, e)
 unsigned_is (Some (Number n)) kind e = none_some kind e
@@ -285,7 +285,7 @@ unsigned_is (Some (Sign t)) kind e = none_some kind e
 unsigned_is (Some End) kind e = none_some kind e
 
 -- a word at a type's place
-type_is : (p : ℕ) (typed : Kind → State) (u : State) (w : List ℕ) (s : State) → on_type p typed u w ≡ Ok s
+pub type_is : (p : ℕ) (typed : Kind → State) (u : State) (w : List ℕ) (s : State) → on_type p typed u w ≡ Ok s
     → ((w ≡ codes "unsigned") × (◌≡◌ {A = Result State Halt} (Ok u) (Ok s))) ⊎ ((kind : Kind) × (type_in types false w ≡ Some kind) × (◌≡◌ {A = Result State Halt} (Ok (typed kind)) (Ok s)))
 type_is p typed u w s e =
     elim (either (bytes_eq w (codes "unsigned")) (Ok u) (or_halt faults.UnknownType p (kind_named w) (λ kind. Ok (typed kind))) (Ok s) e) [
@@ -299,7 +299,7 @@ lands_at : (s s1 : State) (b : Spelling) (x y : Option Lexeme) → x ≡ y → �
 lands_at s s1 b x y same e sits = subst (λ z. Sits s1 (b ++ z ∷ [])) (sym same) (lands s s1 (b ++ y ∷ []) e sits)
 
 -- a name that was not given
-fresh_is : (h : Header) (p : ℕ) (named : List ℕ → State) (x : Option Lexeme) (s : State) → wanted p (word_in x) (on_name h p named) ≡ Ok s → (w : List ℕ) × (x ≡ word w) × (is_some (h.given w) ≡ false) × (◌≡◌ {A = Result State Halt} (Ok (named w)) (Ok s))
+pub fresh_is : (h : Header) (p : ℕ) (named : List ℕ → State) (x : Option Lexeme) (s : State) → wanted p (word_in x) (on_name h p named) ≡ Ok s → (w : List ℕ) × (x ≡ word w) × (is_some (h.given w) ≡ false) × (◌≡◌ {A = Result State Halt} (Ok (named w)) (Ok s))
 fresh_is h p named x s e =
     let w = wanted_is p (word_in x) (on_name h p named) s e in
     elim (either (is_some (h.given w.0)) (halt faults.NameTwice p) (Ok (named w.0)) (Ok s) w.2) [
@@ -380,7 +380,7 @@ item_end_sits h row kind b x p s1 e r =
           ]
     ]
 
-wide_is : (row : Row) (kind : Kind) (name : List ℕ) (n : ℕ) (is_array : Bool) (wider : Row) → widened row kind name n is_array ≡ Some wider
+pub wide_is : (row : Row) (kind : Kind) (name : List ℕ) (n : ℕ) (is_array : Bool) (wider : Row) → widened row kind name n is_array ≡ Some wider
     → (nat_lt max_row_bytes (row.width + bytes_of kind * n) ≡ false) × (◌≡◌ {A = Row} (record { fields = row.fields ++ record { name = name; kind = kind; offset = row.width; is_array = is_array } ∷ []; width = row.width + bytes_of kind * n }) wider)
 wide_is row kind name n is_array wider e =
     elim (either (nat_lt max_row_bytes (row.width + bytes_of kind * n)) None (Some (record { fields = row.fields ++ record { name = name; kind = kind; offset = row.width; is_array = is_array } ∷ []; width = row.width + bytes_of kind * n })) (Some wider) e) [
