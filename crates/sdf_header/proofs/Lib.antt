@@ -15,3 +15,4 @@ pub mod Leads
 pub mod Sits
 pub mod Faults
 pub mod Decided
+pub mod Judgement

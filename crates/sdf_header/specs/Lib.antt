@@ -12,5 +12,6 @@ pub mod Faults
 pub mod Extent
 pub mod Layouts
 pub mod Verdict
+pub mod Judgement
 pub mod Reading
 pub mod Generated

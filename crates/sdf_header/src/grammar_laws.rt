@@ -1,9 +1,14 @@
 //! The verdict of a header, in the terms of its tokens and statements.
 
-ghost use Rattle.std.specs.Prelude.{◌≡◌, ℕ, []};
-ghost use Rattle.sdf_header.specs.TokenList.{tokens_behind};
+ghost use Rattle.std.specs.Prelude.{ℕ, List};
+ghost use Rattle.sdf_header.specs.Judgement.{FaultHasReason, LayoutOfStatements};
 
-/// Temporary.
+/// An input has a layout exactly where the tokens in front of its ending line are the spelling of statements that
+/// fit each other, and what they say gives this layout. An input that is refused has its fault for that fault's own
+/// reason: one of the text is decided by the token at its place.
+///
+/// The body does nothing: the contract is the law.
 pub fn header_is_statements()
-    ensures law { (n : ℕ) → tokens_behind n [] 1 ≡ tokens_behind n [] 0 }
+    ensures layout { (bytes : List ℕ) → LayoutOfStatements bytes }
+    ensures fault { (bytes : List ℕ) → FaultHasReason bytes }
 {}
