@@ -22,9 +22,9 @@ use Rattle.sdf_header.specs.Fields.{Row, has_field, length_of, no_fields}
 use Rattle.sdf_header.specs.Statements.{Header, with_param, with_struct, nothing_given, value_of, number_for, header_in}
 use Rattle.sdf_header.specs.Grammar.{Spelling, spelling, word, sign, count, TypeName, IsType, Item, FieldLine, Statement, IsLength, spell_type, spell_earlier, spell_lines, spell_each, and_items, ItemsFit, and_lines, LinesFit, AllFit, said}
 use Rattle.sdf_header.specs.Faults.{Continues, Stops, TakesInt, StandsBehind, IsLead, NameGiven, ColumnStands, HasValues, Plain, Array, IsTooWide, IsNoType, Decides, FaultAt}
+use Rattle.sdf_header.specs.Judgement.{IsOfSense}
 use Rattle.sdf_header.proofs.Machine.{Halt, halt, State, Done, Start, Wants, ParamName, ParamValue, Unsigned, Typed, Named, NumberFor, TextSize, TextValue, Fields, FieldUnsigned, Item as AtItem, ItemName, Length, ItemEnd, StructSize, wanted, has, ends, word_in, widened, or_halt, given, closed, on_type, on_statement, on_name, on_item, on_item_end, text_in, step, and_then, goes}
 use Rattle.sdf_header.proofs.Simulation.{onward, done, header_goes}
-use Rattle.sdf_header.proofs.Leads.{IsOfSense}
 use Rattle.sdf_header.proofs.Sits.{Before, InType, InStruct, InLine, NewItem, Sits, sits_on, either, wanted_is, or_halt_is, fresh_is, type_is, word_is, sign_is, length_is, token_is, wide_is}
 use Rattle.sdf_header.proofs.Faults.{continues, dead_end, goes-append, spelling-append, Halted, halted, sits_all, nothing_sits}
 

@@ -22,9 +22,10 @@ use Rattle.sdf_header.specs.Fields.{Row, has_field, length_of, no_fields}
 use Rattle.sdf_header.specs.Statements.{Header, with_param, with_struct, nothing_given, value_of, number_for, header_in}
 use Rattle.sdf_header.specs.Grammar.{Spelling, spelling, word, sign, count, TypeName, types, type_in, IsType, Item, FieldLine, Statement, Parameter, Constant, Label, Struct, IsSize, IsLength, AreItems, AreLines, IsStatement, AreStatements, spell_type, spell_size, spell_item, spell_earlier, spell_line, spell_lines, spell, spell_each, Spells, and_item, and_items, ItemsFit, and_lines, LinesFit, AllFit, said}
 use Rattle.sdf_header.specs.Faults.{Continues, Stops, TakesInt, StandsBehind, IsLead, NameGiven, ColumnStands, HasValues, Plain, Array, IsTooWide, IsNoType, Decides, FaultAt, IsHeader}
+use Rattle.sdf_header.specs.Judgement.{IsOfSense}
 use Rattle.sdf_header.proofs.Machine.{Halt, halt, State, Done, Start, Wants, ParamName, ParamValue, Unsigned, Typed, Named, NumberFor, TextSize, TextValue, Fields, FieldUnsigned, Item as AtItem, ItemName, Length, ItemEnd, StructSize, wanted, has, ends, word_in, widened, or_halt, given, closed, on_type, on_statement, on_name, on_item, on_item_end, text_in, step, and_then, goes}
 use Rattle.sdf_header.proofs.Simulation.{onward, done, header_goes}
-use Rattle.sdf_header.proofs.Leads.{IsOfSense, EndsOrBySense, no_bad_spelling, ends_well}
+use Rattle.sdf_header.proofs.Leads.{EndsOrBySense, no_bad_spelling, ends_well}
 use Rattle.sdf_header.proofs.Sits.{spell_each-one, spell_lines-one, spell_earlier-one, are_statements-one, are_lines-one, Before, Whole, InType, InStruct, InLine, NewItem, ItemRead, InText, InTextBehind, Sits, sits_on}
 
 -- ---- at each state the tokens so far can go on to statements

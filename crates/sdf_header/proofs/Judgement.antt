@@ -24,8 +24,13 @@ use Rattle.sdf_header.specs.Statements.{Header, header_in}
 use Rattle.sdf_header.specs.Faults.{FaultAt, IsHeader}
 use Rattle.sdf_header.specs.Extent.{Extent, Faulty, Ends, Open, extent, extent_from, agrees, magic, ending}
 use Rattle.sdf_header.specs.Verdict.{◌>>=◌, or_fault, column, whole, axes_of, optional_of, order_of, whole_param, small_param, cube_of, mass_of, count_of, layout_of, placed, at_place, judged, unended, verdict_from, verdict}
-use Rattle.sdf_header.specs.Judgement.{SaysOf, TokenFault, FaultOf, LayoutOfStatements, FaultHasReason}
+use Rattle.sdf_header.specs.Judgement.{SaysOf, TokenFault, IsOfSense, SpellingFault, FaultOf, LayoutOfStatements, FaultHasReason, SenseDecides}
 use Rattle.sdf_header.proofs.Faults.{is_header, header_is}
+use Rattle.sdf_header.specs.Statements.{nothing_given}
+use Rattle.sdf_header.specs.TokenList.{tokens}
+use Rattle.sdf_header.proofs.Machine.{Halt, halt, State, Start, goes}
+use Rattle.sdf_header.proofs.Simulation.{onward, done, header_goes}
+use Rattle.sdf_header.proofs.Converse.{sense_halts}
 use Rattle.sdf_header.proofs.Decided.{fault_at}
 
 -- ---- faults of what statements say are no faults of the text
@@ -154,12 +159,47 @@ pub layouts : (bytes : List ℕ) → LayoutOfStatements bytes
 unfolding verdict
 layouts bytes layout = (λ e. layout_from bytes layout (extent bytes) refl e, λ s. says_layout bytes (Ok layout) s)
 
-text_fault : (bytes : List ℕ) (text len : ℕ) (kind : FaultKind) (left : ℕ) (f : HeaderFault) → extent bytes ≡ Ends text len → FaultAt (take text bytes) kind (length (take text bytes) - left) → at_place kind (length (take text bytes) - left) ≡ f → FaultOf bytes f
-text_fault bytes text len kinds.Syntax left f ends at is = subst (FaultOf bytes) is (record { text = text; len = len; ends = ends; fault = at })
-text_fault bytes text len kinds.UnknownType left f ends at is = subst (FaultOf bytes) is (record { text = text; len = len; ends = ends; fault = at })
-text_fault bytes text len kinds.NameTwice left f ends at is = subst (FaultOf bytes) is (record { text = text; len = len; ends = ends; fault = at })
-text_fault bytes text len kinds.SecondStruct left f ends at is = subst (FaultOf bytes) is (record { text = text; len = len; ends = ends; fault = at })
-text_fault bytes text len kinds.TooWide left f ends at is = subst (FaultOf bytes) is (record { text = text; len = len; ends = ends; fault = at })
+ok_halt : {B : Type 0} (h : Header) (k : FaultKind) (p : ℕ) → done h ≡ halt k p → B
+ok_halt h k p e = absurd cc
+
+halt_is : (a b : Halt) → ◌≡◌ {A = Result State Halt} (Err a) (Err b) → a ≡ b
+halt_is a b e = cc
+
+abbrev refused : Halt → Result Header HeaderFault
+refused x = Err (at_place x.kind x.place)
+
+halted_is : (z : ℕ) (r : Result Header Fault) (k : FaultKind) (p : ℕ) → onward z done r ≡ halt k p → placed z r ≡ Err (at_place k p)
+halted_is z (Ok h) k p e = ok_halt h k p e
+halted_is z (Err f) k p e = ap refused (halt_is (record { kind = f.kind; place = z - f.left }) (record { kind = k; place = p }) e)
+
+-- a token that decides a fault of what statements say is the verdict
+pub senses : (bytes : List ℕ) → SenseDecides bytes
+unfolding verdict judged
+senses bytes kind place sense t =
+    let text = take t.text bytes in
+    let f = t.fault in
+    ap (verdict_from bytes) t.ends ∙ ap (λ r. r >>= layout_of t.len) (halted_is (length text) (header_in text) kind place (sym (header_goes (length text) text) ∙ sense_halts (tokens text) f.before f.token f.after kind f.is sense f.decides ∙ ap (λ p. halt kind p) f.stands))
+
+no_syntax : (other : FaultKind) (q p : ℕ) → IsOfSense other → faults.Syntax q ≡ at_place other p → ⊥
+no_syntax kinds.Syntax q p sense e = sense
+no_syntax kinds.UnknownType q p sense e = sense
+no_syntax kinds.NameTwice q p sense e = absurd cc
+no_syntax kinds.SecondStruct q p sense e = absurd cc
+no_syntax kinds.TooWide q p sense e = absurd cc
+
+no_type : (other : FaultKind) (q p : ℕ) → IsOfSense other → faults.UnknownType q ≡ at_place other p → ⊥
+no_type kinds.Syntax q p sense e = sense
+no_type kinds.UnknownType q p sense e = sense
+no_type kinds.NameTwice q p sense e = absurd cc
+no_type kinds.SecondStruct q p sense e = absurd cc
+no_type kinds.TooWide q p sense e = absurd cc
+
+text_fault : (bytes : List ℕ) (text len : ℕ) (kind : FaultKind) (left : ℕ) (f : HeaderFault) → extent bytes ≡ Ends text len → FaultAt (take text bytes) kind (length (take text bytes) - left) → at_place kind (length (take text bytes) - left) ≡ f → verdict bytes ≡ Err f → FaultOf bytes f
+text_fault bytes text len kinds.Syntax left f ends at is v = subst (FaultOf bytes) is (record { text = text; len = len; ends = ends; fault = at }, λ other p sense t. no_syntax other (length (take text bytes) - left) p sense (is ∙ err_is _ _ (sym v ∙ senses bytes other p sense t)))
+text_fault bytes text len kinds.UnknownType left f ends at is v = subst (FaultOf bytes) is (record { text = text; len = len; ends = ends; fault = at }, λ other p sense t. no_type other (length (take text bytes) - left) p sense (is ∙ err_is _ _ (sym v ∙ senses bytes other p sense t)))
+text_fault bytes text len kinds.NameTwice left f ends at is v = subst (FaultOf bytes) is (record { text = text; len = len; ends = ends; fault = at })
+text_fault bytes text len kinds.SecondStruct left f ends at is v = subst (FaultOf bytes) is (record { text = text; len = len; ends = ends; fault = at })
+text_fault bytes text len kinds.TooWide left f ends at is v = subst (FaultOf bytes) is (record { text = text; len = len; ends = ends; fault = at })
 
 later_fault : (bytes : List ℕ) (f : HeaderFault) → IsLater f → SaysOf bytes (Err f) → FaultOf bytes f
 later_fault bytes faults.NoMagic l s = absurd l
@@ -176,9 +216,9 @@ later_fault bytes (faults.NotWhole name) l s = s
 later_fault bytes (faults.BadParameter name) l s = s
 later_fault bytes (faults.TooMany n) l s = s
 
-fault_says : (bytes : List ℕ) (text len : ℕ) (f : HeaderFault) → extent bytes ≡ Ends text len → (r : Result Header Fault) → header_in (take text bytes) ≡ r → (placed (length (take text bytes)) r >>= layout_of len) ≡ Err f → FaultOf bytes f
-fault_says bytes text len f ends (Ok h) is e = later_fault bytes f (subst FailsLater e (layout_later len h)) (record { text = text; len = len; header = h; ends = ends; is = is_header (take text bytes) h is; gives = e })
-fault_says bytes text len f ends (Err g) is e = text_fault bytes text len g.kind g.left f ends (fault_at (take text bytes) g is) (err_is _ f e)
+fault_says : (bytes : List ℕ) (text len : ℕ) (f : HeaderFault) → extent bytes ≡ Ends text len → (r : Result Header Fault) → header_in (take text bytes) ≡ r → (placed (length (take text bytes)) r >>= layout_of len) ≡ Err f → verdict bytes ≡ Err f → FaultOf bytes f
+fault_says bytes text len f ends (Ok h) is e v = later_fault bytes f (subst FailsLater e (layout_later len h)) (record { text = text; len = len; header = h; ends = ends; is = is_header (take text bytes) h is; gives = e })
+fault_says bytes text len f ends (Err g) is e v = text_fault bytes text len g.kind g.left f ends (fault_at (take text bytes) g is) (err_is _ f e) v
 
 -- an extent shows the first two faults alone
 abbrev ShowsFirst : Extent → Type 0
@@ -229,15 +269,15 @@ open_fault : (bytes : List ℕ) (b : Bool) (f : HeaderFault) → unended (length
 open_fault bytes true f is ends e = subst (FaultOf bytes) (sym is ∙ e) (inr (ends, is))
 open_fault bytes false f is ends e = subst (FaultOf bytes) (sym is ∙ e) (ends, is)
 
-fault_from : (bytes : List ℕ) (f : HeaderFault) (x : Extent) → extent bytes ≡ x → verdict_from bytes x ≡ Err f → FaultOf bytes f
+fault_from : (bytes : List ℕ) (f : HeaderFault) (x : Extent) → extent bytes ≡ x → verdict_from bytes x ≡ Err f → verdict bytes ≡ Err f → FaultOf bytes f
 unfolding judged
-fault_from bytes f (Faulty g) ends e =
+fault_from bytes f (Faulty g) ends e v =
     (let same = err_is g f e in
     let shows : ShowsFirst (Faulty g) = subst ShowsFirst ends (extent_first bytes) in
     subst (FaultOf bytes) same (first_fault bytes g shows ends))
-fault_from bytes f Open ends e = open_fault bytes (nat_lt (length bytes) 5) f refl ends (err_is (unended (length bytes)) f e)
-fault_from bytes f (Ends text len) ends e = fault_says bytes text len f ends (header_in (take text bytes)) refl e
+fault_from bytes f Open ends e v = open_fault bytes (nat_lt (length bytes) 5) f refl ends (err_is (unended (length bytes)) f e)
+fault_from bytes f (Ends text len) ends e v = fault_says bytes text len f ends (header_in (take text bytes)) refl e v
 
 pub reasons : (bytes : List ℕ) → FaultHasReason bytes
 unfolding verdict
-reasons bytes f e = fault_from bytes f (extent bytes) refl e
+reasons bytes f e = fault_from bytes f (extent bytes) refl e e

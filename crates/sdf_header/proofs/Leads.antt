@@ -1,5 +1,5 @@
 -- The tokens of statements lead on to what is behind them.
-use Rattle.std.proofs.Common.{◌≡◌, ℕ, zero, suc, ◌+◌, ◌*◌, ◌<◌, ◌≤◌, ◌^◌, Bool, true, false, cond, ◌&&◌, ◌⊎◌, inl, inr, List, [], ◌∷◌, ◌++◌, length, map, Option, Some, None, Result, Ok, Err, pos, refl, sym, ap, subst, ◌∙◌, arith}
+use Rattle.std.proofs.Common.{◌≡◌, ℕ, zero, suc, ◌+◌, ◌*◌, ◌<◌, ◌≤◌, ◌^◌, Bool, true, false, cond, ◌&&◌, ◌⊎◌, inl, inr, List, [], ◌∷◌, ◌++◌, length, map, Option, Some, None, Result, Ok, Err, pos, refl, sym, ap, subst, ◌∙◌, append_assoc, arith}
 use Rattle.std.specs.Prelude.{option_and_then, if◌then◌else◌, is_some, codes, nat_lt, nat_le, ◌==◌}
 use Rattle.std.specs.Str.{bytes_eq}
 use Rattle.std.proofs.lemmas.Bool.{cases_Bool, le-leb, lt-ltb}
@@ -17,16 +17,9 @@ use Rattle.std.proofs.lemmas.Slice.Eq.{bytes_eq-Decides}
 use Rattle.sdf_header.specs.Parts.{size_of, unsigned_type}
 use Rattle.sdf_header.specs.Fields.{Row, has_field, length_of, no_fields}
 use Rattle.sdf_header.specs.Statements.{Header, with_param, with_struct, value_of, number_for}
+use Rattle.sdf_header.specs.Judgement.{IsOfSense}
 use Rattle.sdf_header.specs.Grammar.{Spelling, spelling, word, sign, count, TypeName, types, type_in, IsType, Item, FieldLine, Statement, Parameter, Constant, Label, Struct, IsSize, IsLength, AreItems, AreLines, IsStatement, AreStatements, spell_type, spell_size, spell_length, spell_item, spell_earlier, spell_line, spell_lines, spell, spell_each, values_of, and_item, ItemFits, and_items, ItemsFit, and_line, and_lines, LinesFit, and_statement, Fits, and_statements, AllFit}
 use Rattle.sdf_header.proofs.Machine.{Halt, halt, State, Done, Start, Wants, ParamName, ParamValue, Unsigned, Typed, Named, NumberFor, TextSize, TextValue, Fields, FieldUnsigned, Item as AtItem, ItemName, Length, ItemEnd, StructSize, wanted, has, widened, or_halt, given, closed, on_type, on_item_end, step, and_then, goes}
-
--- the fault is of what statements say, and not of how they are spelled
-abbrev pub IsOfSense : FaultKind → Type 0
-IsOfSense faults.Syntax = ⊥
-IsOfSense faults.UnknownType = ⊥
-IsOfSense faults.NameTwice = Unit {0}
-IsOfSense faults.SecondStruct = Unit {0}
-IsOfSense faults.TooWide = Unit {0}
 
 abbrev pub HaltsBySense : Result State Halt → Type 0
 HaltsBySense (Ok s) = ⊥
@@ -34,19 +27,28 @@ HaltsBySense (Err e) = IsOfSense e.kind
 
 -- a run goes on at a later state, before tokens of this spelling
 pub record GoesOn (s : State) (ts : List Token) (later : State) (rest : Spelling) : Type 0 where
+  pub used : List Token
   pub tokens : List Token
+  pub split : ts ≡ used ++ tokens
   pub are : spelling tokens ≡ rest
   pub same : goes s ts ≡ goes later tokens
+
+joined : (s s1 s2 : State) (ts : List Token) (l1 l2 : Spelling) (g : GoesOn s ts s1 l1) → GoesOn s1 g.tokens s2 l2 → GoesOn s ts s2 l2
+joined s s1 s2 ts l1 l2 g next = record {
+  used = g.used ++ next.used; tokens = next.tokens;
+  split = g.split ∙ ap (λ x. g.used ++ x) next.split ∙ sym (append_assoc g.used next.used next.tokens);
+  are = next.are; same = g.same ∙ next.same;
+}
 
 -- it goes on, or it halts since this does not hold
 abbrev pub Leads : State → List Token → State → Spelling → Type 0 → Type 0
 Leads s ts later rest fits = GoesOn s ts later rest ⊎ (HaltsBySense (goes s ts) × (fits → ⊥))
 
-lead_on : (s s1 s2 : State) (ts : List Token) (l1 l2 : Spelling) (p q r : Type 0) → (r → p) → (r → q) → Leads s ts s1 l1 p → ((ts : List Token) → spelling ts ≡ l1 → Leads s1 ts s2 l2 q) → Leads s ts s2 l2 r
+pub lead_on : (s s1 s2 : State) (ts : List Token) (l1 l2 : Spelling) (p q r : Type 0) → (r → p) → (r → q) → Leads s ts s1 l1 p → ((ts : List Token) → spelling ts ≡ l1 → Leads s1 ts s2 l2 q) → Leads s ts s2 l2 r
 lead_on s s1 s2 ts l1 l2 p q r to_p to_q (inr halts) h = inr (halts.0, λ x. halts.1 (to_p x))
 lead_on s s1 s2 ts l1 l2 p q r to_p to_q (inl on) h =
     elim (h on.tokens on.are) [
-      | inl next ↦ inl (record { tokens = next.tokens; are = next.are; same = on.same ∙ next.same })
+      | inl next ↦ inl (joined s s1 s2 ts l1 l2 on next)
       | inr halts ↦ inr (subst HaltsBySense (sym on.same) halts.0, λ x. halts.1 (to_q x))
     ]
 
@@ -58,12 +60,12 @@ token_at : Option Lexeme → ℕ → Token
 token_at x place = record { lexeme = x; place = place }
 
 -- one token
-one : (s s1 : State) (ts : List Token) (x : Option Lexeme) (l : Spelling) → spelling ts ≡ x ∷ l → ((place : ℕ) → step s (record { lexeme = x; place = place }) ≡ Ok s1) → GoesOn s ts s1 l
+pub one : (s s1 : State) (ts : List Token) (x : Option Lexeme) (l : Spelling) → spelling ts ≡ x ∷ l → ((place : ℕ) → step s (record { lexeme = x; place = place }) ≡ Ok s1) → GoesOn s ts s1 l
 unfolding goes
 one s s1 ts x l e h =
     let f = first_is ts x l e in
     let is : step s f.0 ≡ Ok s1 = subst (λ y. step s (record { lexeme = y; place = f.0.place }) ≡ Ok s1) (sym f.3) (h f.0.place) in
-    record { tokens = f.1; are = f.4; same = ap (goes s) f.2 ∙ ap (λ r. and_then r (λ s. goes s f.1)) is }
+    record { used = f.0 ∷ []; tokens = f.1; split = f.2; are = f.4; same = ap (goes s) f.2 ∙ ap (λ r. and_then r (λ s. goes s f.1)) is }
 
 -- one token, whose place the next state keeps
 one_at : (s : State) (s1 : ℕ → State) (ts : List Token) (x : Option Lexeme) (l : Spelling) → spelling ts ≡ x ∷ l → ((place : ℕ) → step s (record { lexeme = x; place = place }) ≡ Ok (s1 place)) → (place : ℕ) × GoesOn s ts (s1 place) l
@@ -71,7 +73,7 @@ unfolding goes
 one_at s s1 ts x l e h =
     let f = first_is ts x l e in
     let is : step s f.0 ≡ Ok (s1 f.0.place) = subst (λ y. step s (record { lexeme = y; place = f.0.place }) ≡ Ok (s1 f.0.place)) (sym f.3) (h f.0.place) in
-    (f.0.place, record { tokens = f.1; are = f.4; same = ap (goes s) f.2 ∙ ap (λ r. and_then r (λ s. goes s f.1)) is })
+    (f.0.place, record { used = f.0 ∷ []; tokens = f.1; split = f.2; are = f.4; same = ap (goes s) f.2 ∙ ap (λ r. and_then r (λ s. goes s f.1)) is })
 
 halts_at : (s : State) (ts : List Token) (x : Option Lexeme) (l : Spelling) (k : FaultKind) → IsOfSense k → spelling ts ≡ x ∷ l → ((place : ℕ) → (q : ℕ) × (step s (record { lexeme = x; place = place }) ≡ halt k q)) → HaltsBySense (goes s ts)
 unfolding goes
@@ -90,15 +92,14 @@ one_or : (b : Bool) (s s1 : State) (ts : List Token) (x : Option Lexeme) (l : Sp
 one_or true s s1 ts x l k sense e h g = inr (halts_at s ts x l k sense e (h refl), λ is. true_false true refl is)
 one_or false s s1 ts x l k sense e h g = inl (one s s1 ts x l e (g refl))
 
-on : (s s1 s2 : State) (ts : List Token) (l1 l2 : Spelling) → GoesOn s ts s1 l1 → ((ts : List Token) → spelling ts ≡ l1 → GoesOn s1 ts s2 l2) → GoesOn s ts s2 l2
+pub on : (s s1 s2 : State) (ts : List Token) (l1 l2 : Spelling) → GoesOn s ts s1 l1 → ((ts : List Token) → spelling ts ≡ l1 → GoesOn s1 ts s2 l2) → GoesOn s ts s2 l2
 on s s1 s2 ts l1 l2 g h =
-    let next = h g.tokens g.are in
-    record { tokens = next.tokens; are = next.are; same = g.same ∙ next.same }
+    joined s s1 s2 ts l1 l2 g (h g.tokens g.are)
 
-on_lead : (s s1 s2 : State) (ts : List Token) (l1 l2 : Spelling) (p : Type 0) → GoesOn s ts s1 l1 → ((ts : List Token) → spelling ts ≡ l1 → Leads s1 ts s2 l2 p) → Leads s ts s2 l2 p
+pub on_lead : (s s1 s2 : State) (ts : List Token) (l1 l2 : Spelling) (p : Type 0) → GoesOn s ts s1 l1 → ((ts : List Token) → spelling ts ≡ l1 → Leads s1 ts s2 l2 p) → Leads s ts s2 l2 p
 on_lead s s1 s2 ts l1 l2 p g h =
     elim (h g.tokens g.are) [
-      | inl next ↦ inl (record { tokens = next.tokens; are = next.are; same = g.same ∙ next.same })
+      | inl next ↦ inl (joined s s1 s2 ts l1 l2 g next)
       | inr halts ↦ inr (subst HaltsBySense (sym g.same) halts.0, halts.1)
     ]
 
@@ -125,7 +126,7 @@ unsigned_types : (w : List ℕ) → unsigned_kind w ≡ type_in types true w
 unsigned_types w = refl
 
 -- a type stands where one is wanted
-lead_type : (s : State) (typed : Kind → State) (u : ℕ → State) (t : TypeName) (ts : List Token) (rest : Spelling)
+pub lead_type : (s : State) (typed : Kind → State) (u : ℕ → State) (t : TypeName) (ts : List Token) (rest : Spelling)
     → ((w : List ℕ) → bytes_eq w (codes "parameter") ≡ false → bytes_eq w (codes "struct") ≡ false → (place : ℕ) → step s (record { lexeme = word w; place = place }) ≡ on_type place typed (u place) w)
     → ((place : ℕ) (t : Token) → step (u place) t ≡ or_halt faults.UnknownType place (option_and_then unsigned_type t.lexeme) (λ kind. Ok (typed kind)))
     → IsType t → spelling ts ≡ spell_type t rest → GoesOn s ts (typed t.kind) rest
@@ -229,8 +230,8 @@ lead_item h row kind i sep next ts rest isnt ends is e =
           ]
     ]
 
-lead_earlier : (h : Header) (row : Row) (kind : Kind) (items : List Item) (ts : List Token) (rest : Spelling) → AreItems items → spelling ts ≡ spell_earlier items rest → Leads (AtItem h row kind) ts (AtItem h (and_items kind row items) kind) rest (ItemsFit kind row items)
-lead_earlier h row kind [] ts rest are e = inl (record { tokens = ts; are = e; same = refl })
+pub lead_earlier : (h : Header) (row : Row) (kind : Kind) (items : List Item) (ts : List Token) (rest : Spelling) → AreItems items → spelling ts ≡ spell_earlier items rest → Leads (AtItem h row kind) ts (AtItem h (and_items kind row items) kind) rest (ItemsFit kind row items)
+lead_earlier h row kind [] ts rest are e = inl (record { used = []; tokens = ts; split = refl; are = e; same = refl })
 lead_earlier h row kind (i ∷ items) ts rest are e =
     lead_on (AtItem h row kind) (AtItem h (and_item kind row i) kind) _ ts (spell_earlier items rest) rest (ItemFits kind row i) (ItemsFit kind (and_item kind row i) items) _ (λ fits. fits.0) (λ fits. fits.1)
         (lead_item h row kind i 44 (λ row. AtItem h row kind) ts (spell_earlier items rest) refl (λ row place. refl) are.0 e)
@@ -247,8 +248,8 @@ lead_line h row l ts rest are e =
             (lead_earlier h row kind l.earlier ts _ are.1 e)
             (λ ts e. lead_item h wider kind l.last 59 (λ row. Fields h row) ts rest refl (λ row place. refl) are.2 e))
 
-lead_lines : (h : Header) (row : Row) (lines : List FieldLine) (ts : List Token) (rest : Spelling) → AreLines lines → spelling ts ≡ spell_lines lines rest → Leads (Fields h row) ts (Fields h (and_lines row lines)) rest (LinesFit row lines)
-lead_lines h row [] ts rest are e = inl (record { tokens = ts; are = e; same = refl })
+pub lead_lines : (h : Header) (row : Row) (lines : List FieldLine) (ts : List Token) (rest : Spelling) → AreLines lines → spelling ts ≡ spell_lines lines rest → Leads (Fields h row) ts (Fields h (and_lines row lines)) rest (LinesFit row lines)
+lead_lines h row [] ts rest are e = inl (record { used = []; tokens = ts; split = refl; are = e; same = refl })
 lead_lines h row (l ∷ lines) ts rest are e =
     lead_on (Fields h row) (Fields h (and_line row l)) _ ts (spell_lines lines rest) rest _ (LinesFit (and_line row l) lines) _ (λ fits. fits.0) (λ fits. fits.1)
         (lead_line h row l ts (spell_lines lines rest) are.0 e)
@@ -271,7 +272,7 @@ lead_struct h lines size ts rest are sized e =
 
 -- ---- statements
 
-lead_statement : (h : Header) (s : Statement) (ts : List Token) (rest : Spelling) → IsStatement s → spelling ts ≡ spell s rest → Leads (Start h) ts (Start (and_statement h s)) rest (Fits h s)
+pub lead_statement : (h : Header) (s : Statement) (ts : List Token) (rest : Spelling) → IsStatement s → spelling ts ≡ spell s rest → Leads (Start h) ts (Start (and_statement h s)) rest (Fits h s)
 lead_statement h (Parameter name token value) ts rest is e = lead_parameter h name token value ts rest is e
 lead_statement h (Constant t name token value) ts rest is e = lead_constant h t name token value ts rest is.0 is.1 e
 lead_statement h (Label t name size) ts rest is e = lead_label h t name size ts rest is.0 is.1 is.2 e
@@ -314,3 +315,15 @@ no_bad_spelling h ss ts are e =
       | inl g ↦ subst EndsOrBySense (sym (g.same ∙ ap (goes (Done (and_statements h ss))) (no_tokens g.tokens g.are))) tt
       | inr halts ↦ by_sense (goes (Start h) ts) halts.0
     ]
+
+-- statements lead on to what is behind them
+pub lead_each : (h : Header) (ss : List Statement) (ts : List Token) (rest : Spelling) → AreStatements ss → spelling ts ≡ spell_each ss rest → Leads (Start h) ts (Start (and_statements h ss)) rest (AllFit h ss)
+lead_each h [] ts rest are e = inl (record { used = []; tokens = ts; split = refl; are = e; same = refl })
+lead_each h (s ∷ ss) ts rest are e =
+    lead_on (Start h) (Start (and_statement h s)) (Start (and_statements h (s ∷ ss))) ts (spell_each ss rest) rest (Fits h s) (AllFit (and_statement h s) ss) _ (λ fits. fits.0) (λ fits. fits.1)
+        (lead_statement h s ts (spell_each ss rest) are.0 e)
+        (λ ts e. lead_each (and_statement h s) ss ts rest are.1 e)
+
+pub since_fits : (s later : State) (ts : List Token) (rest : Spelling) (p : Type 0) → Leads s ts later rest p → p → GoesOn s ts later rest
+since_fits s later ts rest p (inl g) fits = g
+since_fits s later ts rest p (inr halts) fits = absurd (halts.1 fits)

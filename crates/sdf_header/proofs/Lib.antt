@@ -16,3 +16,4 @@ pub mod Sits
 pub mod Faults
 pub mod Decided
 pub mod Judgement
+pub mod Converse

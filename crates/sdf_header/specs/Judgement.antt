@@ -8,7 +8,7 @@ use Rattle.sdf_header.specs.Layouts.{LayoutValue}
 use Rattle.sdf_header.specs.Statements.{Header}
 use Rattle.sdf_header.specs.Faults.{FaultAt, IsHeader}
 use Rattle.sdf_header.specs.Extent.{Extent, Faulty, Ends, Open, extent}
-use Rattle.sdf_header.specs.Verdict.{layout_of, unended, verdict}
+use Rattle.sdf_header.specs.Verdict.{at_place, layout_of, unended, verdict}
 
 -- the text in front of the ending line is a header of fitting statements, and what they say gives this
 pub record SaysOf (bytes : List ℕ) (given : Result LayoutValue HeaderFault) : Type 0 where
@@ -26,14 +26,26 @@ pub record TokenFault (bytes : List ℕ) (kind : FaultKind) (place : ℕ) : Type
   pub ends : extent bytes ≡ Ends text len
   pub fault : FaultAt (take text bytes) kind place
 
+-- the fault is of what statements say, and not of how they are spelled
+abbrev pub IsOfSense : FaultKind → Type 0
+IsOfSense kinds.Syntax = ⊥
+IsOfSense kinds.UnknownType = ⊥
+IsOfSense kinds.NameTwice = Unit {0}
+IsOfSense kinds.SecondStruct = Unit {0}
+IsOfSense kinds.TooWide = Unit {0}
+
+-- a token decides a fault of how statements are spelled, and none decides one of what they say
+abbrev pub SpellingFault : List ℕ → FaultKind → ℕ → Type 0
+SpellingFault bytes kind place = TokenFault bytes kind place × ((other : FaultKind) (p : ℕ) → IsOfSense other → TokenFault bytes other p → ⊥)
+
 -- why the input has this fault: its first bytes or its length show it, or it ends before that; or a token of
 -- the text decides it; or the statements are good, and what they say gives no layout
 abbrev pub FaultOf : List ℕ → HeaderFault → Type 0
 FaultOf bytes faults.NoMagic = (extent bytes ≡ Faulty faults.NoMagic) ⊎ ((extent bytes ≡ Open) × (unended (length bytes) ≡ faults.NoMagic))
 FaultOf bytes faults.TooLong = extent bytes ≡ Faulty faults.TooLong
 FaultOf bytes faults.NoEnd = (extent bytes ≡ Open) × (unended (length bytes) ≡ faults.NoEnd)
-FaultOf bytes (faults.Syntax place) = TokenFault bytes kinds.Syntax place
-FaultOf bytes (faults.UnknownType place) = TokenFault bytes kinds.UnknownType place
+FaultOf bytes (faults.Syntax place) = SpellingFault bytes kinds.Syntax place
+FaultOf bytes (faults.UnknownType place) = SpellingFault bytes kinds.UnknownType place
 FaultOf bytes (faults.NameTwice place) = TokenFault bytes kinds.NameTwice place
 FaultOf bytes (faults.SecondStruct place) = TokenFault bytes kinds.SecondStruct place
 FaultOf bytes (faults.TooWide place) = TokenFault bytes kinds.TooWide place
@@ -50,3 +62,7 @@ LayoutOfStatements bytes = (layout : LayoutValue) → (verdict bytes ≡ Ok layo
 -- an input that is refused has the fault for its own reason
 abbrev pub FaultHasReason : List ℕ → Type 0
 FaultHasReason bytes = (f : HeaderFault) → verdict bytes ≡ Err f → FaultOf bytes f
+
+-- a token that decides a fault of what statements say is the verdict
+abbrev pub SenseDecides : List ℕ → Type 0
+SenseDecides bytes = (kind : FaultKind) (place : ℕ) → IsOfSense kind → TokenFault bytes kind place → verdict bytes ≡ Err (at_place kind place)
