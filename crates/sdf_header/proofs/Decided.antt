@@ -21,12 +21,12 @@ use Rattle.sdf_header.specs.Parts.{is_the, size_of, unsigned_type, word_of}
 use Rattle.sdf_header.specs.Fields.{Row, has_field, length_of, no_fields}
 use Rattle.sdf_header.specs.Statements.{Header, with_param, with_struct, nothing_given, value_of, number_for, header_in}
 use Rattle.sdf_header.specs.Grammar.{Spelling, spelling, word, sign, count, TypeName, IsType, Item, FieldLine, Statement, IsLength, spell_type, spell_earlier, spell_lines, spell_each, and_items, ItemsFit, and_lines, LinesFit, AllFit, said}
-use Rattle.sdf_header.specs.Faults.{Continues, Stops, TakesInt, StandsBehind, IsLead, NameGiven, ColumnStands, HasValues, Plain, Array, IsTooWide, IsNoType, Decides, FaultAt}
+use Rattle.sdf_header.specs.Faults.{Continues, Stops, TypeWanted, BehindUnsigned, IsTypeWord, StandsBehind, IsLead, NameGiven, ColumnStands, HasValues, Plain, Array, IsTooWide, IsNoType, Decides, FaultAt}
 use Rattle.sdf_header.specs.Judgement.{IsOfSense}
 use Rattle.sdf_header.proofs.Machine.{Halt, halt, State, Done, Start, Wants, ParamName, ParamValue, Unsigned, Typed, Named, NumberFor, TextSize, TextValue, Fields, FieldUnsigned, Item as AtItem, ItemName, Length, ItemEnd, StructSize, wanted, has, ends, word_in, widened, or_halt, given, closed, on_type, on_statement, on_name, on_item, on_item_end, text_in, step, and_then, goes}
 use Rattle.sdf_header.proofs.Simulation.{onward, done, header_goes}
 use Rattle.sdf_header.proofs.Sits.{Before, InType, InStruct, InLine, NewItem, Sits, sits_on, either, wanted_is, or_halt_is, fresh_is, type_is, word_is, sign_is, length_is, token_is, wide_is}
-use Rattle.sdf_header.proofs.Faults.{continues, dead_end, goes-append, spelling-append, Halted, halted, sits_all, nothing_sits}
+use Rattle.sdf_header.proofs.Faults.{continues, dead_end, goes-append, spelling-append, Halted, halted, sits_all, nothing_sits, front_continues}
 
 -- ---- the places that a state keeps
 
@@ -251,6 +251,102 @@ holds_all (t ∷ ts) s s1 b e sits h = go (step s t) refl e (λ s' e' sits' h'. 
     go (Err x) is e ih = err_okh x s1 e
     go (Ok s') is e ih = subst (λ x. Holds s1 x) (append_assoc b (t ∷ []) ts) (ih s' e (subst (λ x. Sits s' x) (sym (spelling-append b (t ∷ []))) (sits_on s s' (spelling b) t.lexeme t.place is sits)) (holds_on s s' b t is sits h))
 
+-- ---- behind `unsigned`
+
+-- the states behind a word that may be `unsigned`
+abbrev pub TakesUnsigned : State → Type 0
+TakesUnsigned (Done h) = ⊥
+TakesUnsigned (Start h) = ⊥
+TakesUnsigned (Wants s after) = Unit {0}
+TakesUnsigned (ParamName h) = ⊥
+TakesUnsigned (ParamValue h name) = ⊥
+TakesUnsigned (Unsigned h p) = Unit {0}
+TakesUnsigned (Typed h kind) = ⊥
+TakesUnsigned (Named h kind name) = Unit {0}
+TakesUnsigned (NumberFor h kind name) = ⊥
+TakesUnsigned (TextSize h name) = ⊥
+TakesUnsigned (TextValue h name) = ⊥
+TakesUnsigned (Fields h row) = ⊥
+TakesUnsigned (FieldUnsigned h row p) = Unit {0}
+TakesUnsigned (AtItem h row kind) = ⊥
+TakesUnsigned (ItemName h row kind name p) = Unit {0}
+TakesUnsigned (Length h row kind name p) = ⊥
+TakesUnsigned (ItemEnd h row kind) = ⊥
+TakesUnsigned (StructSize h row) = ⊥
+
+takes : (s s1 : State) → ◌≡◌ {A = Result State Halt} (Ok s) (Ok s1) → TakesUnsigned s → TakesUnsigned s1
+takes s s1 e t = subst TakesUnsigned (ok_is s s1 e) t
+
+name_takes : (h : Header) (p : ℕ) (named : List ℕ → State) (w : List ℕ) (s1 : State) → TakesUnsigned (named w) → on_name h p named w ≡ Ok s1 → TakesUnsigned s1
+name_takes h p named w s1 t e =
+    elim (either (is_some (h.given w)) (halt faults.NameTwice p) (Ok (named w)) (Ok s1) e) [
+      | inl a ↦ err_ok faults.NameTwice p s1 a.1
+      | inr b ↦ takes (named w) s1 b.1 t
+    ]
+
+on_unsigned : (s s1 : State) (p : ℕ) → step s (record { lexeme = word (codes "unsigned"); place = p }) ≡ Ok s1 → TakesUnsigned s1
+on_unsigned (Done h) s1 p e = err_ok faults.Syntax p s1 e
+on_unsigned (Start h) s1 p e = takes (Unsigned h p) s1 e tt
+on_unsigned (Wants s after) s1 p e = err_ok faults.Syntax p s1 e
+on_unsigned (ParamName h) s1 p e = name_takes h p (λ w. Wants 61 (ParamValue h w)) (codes "unsigned") s1 tt e
+on_unsigned (ParamValue h name) s1 p e = takes (given h name values.Other) s1 e tt
+on_unsigned (Unsigned h q) s1 p e = err_ok faults.UnknownType q s1 e
+on_unsigned (Typed h kind) s1 p e = name_takes h p (λ w. Named h kind w) (codes "unsigned") s1 tt e
+on_unsigned (Named h kind name) s1 p e = err_ok faults.Syntax p s1 e
+on_unsigned (NumberFor h kind name) s1 p e = err_ok faults.Syntax p s1 e
+on_unsigned (TextSize h name) s1 p e = err_ok faults.Syntax p s1 e
+on_unsigned (TextValue h name) s1 p e = err_ok faults.Syntax p s1 e
+on_unsigned (Fields h row) s1 p e = takes (FieldUnsigned h row p) s1 e tt
+on_unsigned (FieldUnsigned h row q) s1 p e = err_ok faults.UnknownType q s1 e
+on_unsigned (AtItem h row kind) s1 p e =
+    elim (either (has_field (codes "unsigned") row.fields) (halt faults.NameTwice p) (cond (length row.fields == max_columns) (halt faults.TooWide p) (Ok (ItemName h row kind (codes "unsigned") p))) (Ok s1) e) [
+      | inl a ↦ err_ok faults.NameTwice p s1 a.1
+      | inr f ↦
+          elim (either (length row.fields == max_columns) (halt faults.TooWide p) (Ok (ItemName h row kind (codes "unsigned") p)) (Ok s1) f.1) [
+            | inl a ↦ err_ok faults.TooWide p s1 a.1
+            | inr g ↦ takes (ItemName h row kind (codes "unsigned") p) s1 g.1 tt
+          ]
+    ]
+on_unsigned (ItemName h row kind name q) s1 p e =
+    (let w = or_halt_is faults.TooWide q (widened row kind name 1 false) (λ wider. on_item_end h wider kind (record { lexeme = word (codes "unsigned"); place = p })) s1 e in err_ok faults.Syntax p s1 w.2)
+on_unsigned (Length h row kind name q) s1 p e = err_ok faults.Syntax p s1 e
+on_unsigned (ItemEnd h row kind) s1 p e = err_ok faults.Syntax p s1 e
+on_unsigned (StructSize h row) s1 p e = err_ok faults.Syntax p s1 e
+
+-- the last of two equal lists
+last_or : Option Lexeme → Spelling → Option Lexeme
+last_or d [] = d
+last_or d (x ∷ xs) = last_or x xs
+
+last_is : (xs : Spelling) (d x : Option Lexeme) → last_or d (xs ++ x ∷ []) ≡ x
+unfolding last_or
+last_is [] d x = refl
+last_is (y ∷ xs) d x = last_is xs y x
+
+same_last : (a b : Spelling) (x y : Option Lexeme) → a ++ x ∷ [] ≡ b ++ y ∷ [] → x ≡ y
+same_last a b x y e = sym (last_is a None x) ∙ ap (last_or None) e ∙ last_is b None y
+
+-- a state behind `unsigned` is one of those
+abbrev AfterUnsigned : State → Spelling → Type 0
+AfterUnsigned s b = (front : Spelling) → b ≡ front ++ word (codes "unsigned") ∷ [] → TakesUnsigned s
+
+after_on : (s s1 : State) (b : Spelling) (t : Token) → step s t ≡ Ok s1 → AfterUnsigned s1 (b ++ t.lexeme ∷ [])
+after_on s s1 b t e front is =
+    on_unsigned s s1 t.place (subst (λ x. step s (record { lexeme = x; place = t.place }) ≡ Ok s1) (same_last b front t.lexeme (word (codes "unsigned")) is) e)
+
+after_all : (ts : List Token) (s s1 : State) (b : Spelling) → goes s ts ≡ Ok s1 → AfterUnsigned s b → AfterUnsigned s1 (b ++ spelling ts)
+unfolding goes
+after_all [] s s1 b e after = subst (λ x. AfterUnsigned s1 x) (sym (append-nil b)) (subst (λ s. AfterUnsigned s b) (ok_is s s1 e) after)
+after_all (t ∷ ts) s s1 b e after = go (step s t) refl e (λ s' e' after'. after_all ts s' s1 (b ++ t.lexeme ∷ []) e' after')
+  where
+    go : (r : Result State Halt) → step s t ≡ r → and_then r (λ s. goes s ts) ≡ Ok s1 → ((s' : State) → goes s' ts ≡ Ok s1 → AfterUnsigned s' (b ++ t.lexeme ∷ []) → AfterUnsigned s1 ((b ++ t.lexeme ∷ []) ++ spelling ts)) → AfterUnsigned s1 (b ++ t.lexeme ∷ spelling ts)
+    go (Err x) is e ih = err_okh x s1 e
+    go (Ok s') is e ih = subst (λ x. AfterUnsigned s1 x) (append_assoc b (t.lexeme ∷ []) (spelling ts)) (ih s' e (after_on s s' b t is))
+
+nothing_after : AfterUnsigned (Start nothing_given) []
+nothing_after [] e = absurd cc
+nothing_after (x ∷ front) e = absurd cc
+
 -- ---- what a token decides
 
 pub record Found (all : List Token) (k : FaultKind) (q : ℕ) : Type 0 where
@@ -286,6 +382,7 @@ pub record Place (all : List Token) (s : State) : Type 0 where
   pub run : goes (Start nothing_given) before ≡ Ok s
   pub sits : Sits s (spelling before)
   pub held : Holds s before
+  pub after_unsigned : AfterUnsigned s (spelling before)
 
 abbrev int_token : Token
 int_token = record { lexeme = word (codes "int"); place = 0 }
@@ -293,15 +390,40 @@ int_token = record { lexeme = word (codes "int"); place = 0 }
 stops : (all : List Token) (s : State) (p : Place all s) (k : FaultKind) (q : ℕ) → step s p.token ≡ halt k q → (IsOfSense k → ⊥) → Stops (spelling p.before) p.token.lexeme
 stops all s p k q e bad = (continues s (spelling p.before) p.sits, dead_end p.before p.token s k q p.run e bad)
 
-syntax : (all : List Token) (s : State) (p : Place all s) (k : FaultKind) (q : ℕ) → step s p.token ≡ halt k q → ((w : List ℕ) → p.token.lexeme ≡ word w → (r : ℕ) × (step s int_token ≡ halt faults.Syntax r)) → ◌≡◌ {A = Result State Halt} (halt faults.Syntax p.token.place) (halt k q) → Found all k q
-syntax all s p k q e no_int same =
+abbrev lone_unsigned : Token
+lone_unsigned = record { lexeme = word (codes "unsigned"); place = 0 }
+
+-- behind this state `int` is a fault of the syntax, where it is one that `unsigned` leads to
+abbrev NoInt : State → Type 0
+NoInt s = TakesUnsigned s → (r : ℕ) × (step s int_token ≡ halt faults.Syntax r)
+
+syntax : (all : List Token) (s : State) (p : Place all s) (k : FaultKind) (q : ℕ) → step s p.token ≡ halt k q → ((w : List ℕ) → p.token.lexeme ≡ word w → (r : ℕ) × (step s lone_unsigned ≡ halt faults.Syntax r)) → NoInt s → ◌≡◌ {A = Result State Halt} (halt faults.Syntax p.token.place) (halt k q) → Found all k q
+syntax all s p k q e no_unsigned no_int same =
     moved all faults.Syntax k p.token.place q same (record {
       before = p.before; token = p.token; after = p.after; is = p.is; stands = refl;
-      decides = (stops all s p faults.Syntax p.token.place (e ∙ sym same) (λ x. x), λ w x int. (let r = no_int w x in dead_end p.before int_token s faults.Syntax r.0 p.run r.1 (λ x. x) int));
+      decides = (stops all s p faults.Syntax p.token.place (e ∙ sym same) (λ x. x), no_word_here, not_behind);
     })
+  where
+    b : Spelling
+    b = spelling p.before
+    no_word_here : IsTypeWord b p.token.lexeme → ⊥
+    no_word_here t =
+        let r = no_unsigned t.0 t.1 in
+        dead_end p.before lone_unsigned s faults.Syntax r.0 p.run r.1 (λ x. x)
+            (front_continues (b ++ word (codes "unsigned") ∷ []) (word (codes "int") ∷ []) (subst Continues (sym (append_assoc b (word (codes "unsigned") ∷ []) (word (codes "int") ∷ []))) t.2))
+    not_behind : BehindUnsigned b → ⊥
+    not_behind u =
+        let r = no_int (p.after_unsigned u.0 u.1) in
+        dead_end p.before int_token s faults.Syntax r.0 p.run r.1 (λ x. x)
+            (subst (λ y. Continues (y ++ word (codes "int") ∷ [])) (sym u.1) (subst Continues (sym (append_assoc u.0 (word (codes "unsigned") ∷ []) (word (codes "int") ∷ []))) u.2))
 
-takes_int : (all : List Token) (s s1 : State) (p : Place all s) → step s int_token ≡ Ok s1 → TakesInt (spelling p.before)
+takes_int : (all : List Token) (s s1 : State) (p : Place all s) → step s int_token ≡ Ok s1 → Continues (spelling p.before ++ word (codes "int") ∷ [])
 takes_int all s s1 p e = continues s1 _ (sits_on s s1 (spelling p.before) (word (codes "int")) 0 e p.sits)
+
+takes_type : (all : List Token) (s s1 s2 : State) (p : Place all s) → step s lone_unsigned ≡ Ok s1 → step s1 int_token ≡ Ok s2 → TypeWanted (spelling p.before)
+takes_type all s s1 s2 p e f =
+    subst Continues (append_assoc (spelling p.before) (word (codes "unsigned") ∷ []) (word (codes "int") ∷ []))
+        (continues s2 _ (sits_on s1 s2 (spelling p.before ++ word (codes "unsigned") ∷ []) (word (codes "int")) 0 f (sits_on s s1 (spelling p.before) (word (codes "unsigned")) 0 e p.sits)))
 
 wanted_not : {A : Type 0} (p : ℕ) (o : Option A) (f : A → Result State Halt) (k : FaultKind) (q : ℕ) → wanted p o f ≡ halt k q → ((o ≡ None) × (◌≡◌ {A = Result State Halt} (halt faults.Syntax p) (halt k q))) ⊎ ((a : A) × (o ≡ Some a) × (f a ≡ halt k q))
 wanted_not p None f k q e = inl (refl, e)
@@ -327,20 +449,20 @@ behind h b part p = record { are = p.are; fit = p.fit; spelled = sym (append-nil
 
 -- ---- a type that is none
 
-no_type : (all : List Token) (s s1 : State) (p : Place all s) (k : FaultKind) (q : ℕ) (w : List ℕ) → step s p.token ≡ halt k q → step s int_token ≡ Ok s1 → p.token.lexeme ≡ word w → ◌≡◌ {A = Result State Halt} (halt faults.UnknownType p.token.place) (halt k q) → Found all k q
-no_type all s s1 p k q w e int x same =
+no_type : (all : List Token) (s s1 s2 : State) (p : Place all s) (k : FaultKind) (q : ℕ) (w : List ℕ) → step s p.token ≡ halt k q → step s lone_unsigned ≡ Ok s1 → step s1 int_token ≡ Ok s2 → (TakesUnsigned s → ⊥) → p.token.lexeme ≡ word w → ◌≡◌ {A = Result State Halt} (halt faults.UnknownType p.token.place) (halt k q) → Found all k q
+no_type all s s1 s2 p k q w e one two not_behind x same =
     moved all faults.UnknownType k p.token.place q same (record {
       before = p.before; token = p.token; after = p.after; is = p.is; stands = refl;
-      decides = inl (w, x, stops all s p faults.UnknownType p.token.place (e ∙ sym same) (λ x. x), takes_int all s s1 p int);
+      decides = inl (stops all s p faults.UnknownType p.token.place (e ∙ sym same) (λ x. x), (w, x, takes_type all s s1 s2 p one two), λ u. not_behind (p.after_unsigned u.0 u.1));
     })
 
-on_type_halts : (all : List Token) (s s1 u : State) (typed : Kind → State) (p : Place all s) (k : FaultKind) (q : ℕ) (w : List ℕ) → step s p.token ≡ halt k q → step s int_token ≡ Ok s1 → p.token.lexeme ≡ word w → on_type p.token.place typed u w ≡ halt k q → Found all k q
-on_type_halts all s s1 u typed p k q w e int x at =
+on_type_halts : (all : List Token) (s s1 s2 u : State) (typed : Kind → State) (p : Place all s) (k : FaultKind) (q : ℕ) (w : List ℕ) → step s p.token ≡ halt k q → step s lone_unsigned ≡ Ok s1 → step s1 int_token ≡ Ok s2 → (TakesUnsigned s → ⊥) → p.token.lexeme ≡ word w → on_type p.token.place typed u w ≡ halt k q → Found all k q
+on_type_halts all s s1 s2 u typed p k q w e one two not_behind x at =
     elim (either (bytes_eq w (codes "unsigned")) (Ok u) (or_halt faults.UnknownType p.token.place (kind_named w) (λ kind. Ok (typed kind))) (halt k q) at) [
       | inl a ↦ ok_halt u k q a.1
       | inr b ↦
           elim (or_halt_not faults.UnknownType p.token.place (kind_named w) (λ kind. Ok (typed kind)) k q b.1) [
-            | inl none ↦ no_type all s s1 p k q w e int x none.1
+            | inl none ↦ no_type all s s1 s2 p k q w e one two not_behind x none.1
             | inr c ↦ ok_halt (typed c.0) k q c.2
           ]
     ]
@@ -354,22 +476,24 @@ no_unsigned all s s1 typed p place k q kept e int at =
       | inl none ↦
           (let front : spelling p.before ≡ spelling kept.before ++ kept.token.lexeme ∷ [] = ap spelling kept.is ∙ spelling-append kept.before (kept.token ∷ kept.after) ∙ ap (λ y. spelling kept.before ++ kept.token.lexeme ∷ y) kept.spelled in
           let stop : Stops (spelling kept.before ++ kept.token.lexeme ∷ []) p.token.lexeme = subst (λ y. Stops y p.token.lexeme) front (stops all s p faults.UnknownType place (e ∙ sym none.1) (λ x. x)) in
+          let last : spelling p.before ≡ spelling kept.before ++ word (codes "unsigned") ∷ [] = front ∙ ap (λ y. spelling kept.before ++ y ∷ []) kept.lexeme in
+          let wanted : TypeWanted (spelling kept.before) = subst Continues (append_assoc (spelling kept.before) (word (codes "unsigned") ∷ []) (word (codes "int") ∷ [])) (subst (λ y. Continues (y ++ word (codes "int") ∷ [])) last (takes_int all s s1 p int)) in
           moved all faults.UnknownType k place q none.1 (record {
             before = kept.before; token = kept.token; after = kept.after ++ p.token ∷ p.after;
             is = p.is ∙ ap (λ y. y ++ p.token ∷ p.after) kept.is ∙ append_assoc kept.before (kept.token ∷ kept.after) (p.token ∷ p.after);
             stands = kept.stands;
-            decides = inr (kept.lexeme, subst TakesInt front (takes_int all s s1 p int), p.token.lexeme, spelling p.after, spelling-append kept.after (p.token ∷ p.after) ∙ ap (λ y. y ++ p.token.lexeme ∷ spelling p.after) kept.spelled, stop);
+            decides = inr (kept.lexeme, wanted, p.token.lexeme, spelling p.after, spelling-append kept.after (p.token ∷ p.after) ∙ ap (λ y. y ++ p.token.lexeme ∷ spelling p.after) kept.spelled, stop);
           }))
     ]
 
 -- ---- a name that was given
 
 name_twice : (all : List Token) (s : State) (h : Header) (p : Place all s) (part : Spelling → Spelling) (b : Before h (spelling p.before) part) (k : FaultKind) (q : ℕ) (named : List ℕ → State) → IsLead (part []) → step s p.token ≡ halt k q
-    → ((o : word_in p.token.lexeme ≡ None) → (w : List ℕ) → p.token.lexeme ≡ word w → (r : ℕ) × (step s int_token ≡ halt faults.Syntax r))
+    → ((o : word_in p.token.lexeme ≡ None) → (w : List ℕ) → p.token.lexeme ≡ word w → (r : ℕ) × (step s lone_unsigned ≡ halt faults.Syntax r)) → NoInt s
     → wanted p.token.place (word_in p.token.lexeme) (on_name h p.token.place named) ≡ halt k q → Found all k q
-name_twice all s h p part b k q named lead e no_int at =
+name_twice all s h p part b k q named lead e no_unsigned no_int at =
     elim (wanted_not p.token.place (word_in p.token.lexeme) (on_name h p.token.place named) k q at) [
-      | inl none ↦ syntax all s p k q e (no_int none.0) none.1
+      | inl none ↦ syntax all s p k q e (no_unsigned none.0) no_int none.1
       | inr w ↦
           elim (either (is_some (h.given w.0)) (halt faults.NameTwice p.token.place) (Ok (named w.0)) (halt k q) w.2) [
             | inr f ↦ ok_halt (named w.0) k q f.1
@@ -411,14 +535,14 @@ too_wide all s h row kind name place more p k q n item wide values same =
       });
     })
 
-on_item_end_halts : (all : List Token) (s : State) (h : Header) (row : Row) (kind : Kind) (p : Place all s) (k : FaultKind) (q : ℕ) → step s p.token ≡ halt k q → ((r : ℕ) × (step s int_token ≡ halt faults.Syntax r)) → on_item_end h row kind p.token ≡ halt k q → Found all k q
-on_item_end_halts all s h row kind p k q e no_int at =
+on_item_end_halts : (all : List Token) (s : State) (h : Header) (row : Row) (kind : Kind) (p : Place all s) (k : FaultKind) (q : ℕ) → step s p.token ≡ halt k q → ((r : ℕ) × (step s lone_unsigned ≡ halt faults.Syntax r)) → NoInt s → on_item_end h row kind p.token ≡ halt k q → Found all k q
+on_item_end_halts all s h row kind p k q e no_unsigned no_int at =
     elim (either (has 59 p.token.lexeme) (Ok (Fields h row)) (cond (has 44 p.token.lexeme) (Ok (AtItem h row kind)) (halt faults.Syntax p.token.place)) (halt k q) at) [
       | inl a ↦ ok_halt (Fields h row) k q a.1
       | inr f ↦
           elim (either (has 44 p.token.lexeme) (Ok (AtItem h row kind)) (halt faults.Syntax p.token.place) (halt k q) f.1) [
             | inl a ↦ ok_halt (AtItem h row kind) k q a.1
-            | inr g ↦ syntax all s p k q e (λ w x. no_int) g.1
+            | inr g ↦ syntax all s p k q e (λ w x. no_unsigned) no_int g.1
           ]
     ]
 
@@ -434,20 +558,20 @@ no_bracket x f e = (let t : has 91 x ≡ true = ap (has 91) e in absurd cc)
 
 -- why the run halts
 pub why : (all : List Token) (s : State) (p : Place all s) (k : FaultKind) (q : ℕ) → step s p.token ≡ halt k q → Found all k q
-why all (Done h) p k q e = syntax all (Done h) p k q e (λ w x. (0, refl)) e
+why all (Done h) p k q e = syntax all (Done h) p k q e (λ w x. (0, refl)) (λ c. absurd c) e
 why all (Start h) p k q e =
     (let t = p.token in
     elim (either (ends t.lexeme) (Ok (Done h)) (wanted t.place (word_in t.lexeme) (on_statement h t.place)) (halt k q) e) [
       | inl a ↦ ok_halt (Done h) k q a.1
       | inr f ↦
           elim (wanted_not t.place (word_in t.lexeme) (on_statement h t.place) k q f.1) [
-            | inl none ↦ syntax all (Start h) p k q e (λ w x. no_word t.lexeme w none.0 x) none.1
+            | inl none ↦ syntax all (Start h) p k q e (λ w x. no_word t.lexeme w none.0 x) (λ c. absurd c) none.1
             | inr w ↦
                 elim (either (bytes_eq w.0 (codes "parameter")) (Ok (ParamName h)) (cond (bytes_eq w.0 (codes "struct")) (cond (is_some h.table) (halt faults.SecondStruct t.place) (Ok (Wants 123 (Fields h no_fields)))) (on_type t.place (Typed h) (Unsigned h t.place) w.0)) (halt k q) w.2) [
                   | inl a ↦ ok_halt (ParamName h) k q a.1
                   | inr g ↦
                       elim (either (bytes_eq w.0 (codes "struct")) (cond (is_some h.table) (halt faults.SecondStruct t.place) (Ok (Wants 123 (Fields h no_fields)))) (on_type t.place (Typed h) (Unsigned h t.place) w.0) (halt k q) g.1) [
-                        | inr o ↦ on_type_halts all (Start h) (Typed h (kinds.Whole wholes.I32)) (Unsigned h t.place) (Typed h) p k q w.0 e refl (word_is t.lexeme w.0 w.1) o.1
+                        | inr o ↦ on_type_halts all (Start h) (Unsigned h 0) (Typed h (kinds.Whole wholes.U32)) (Unsigned h t.place) (Typed h) p k q w.0 e refl refl (λ c. c) (word_is t.lexeme w.0 w.1) o.1
                         | inl a ↦
                             elim (either (is_some h.table) (halt faults.SecondStruct t.place) (Ok (Wants 123 (Fields h no_fields))) (halt k q) a.1) [
                               | inr b ↦ ok_halt (Wants 123 (Fields h no_fields)) k q b.1
@@ -463,28 +587,28 @@ why all (Start h) p k q e =
 why all (Wants s after) p k q e =
     elim (either (has s p.token.lexeme) (Ok after) (halt faults.Syntax p.token.place) (halt k q) e) [
       | inl a ↦ ok_halt after k q a.1
-      | inr f ↦ syntax all (Wants s after) p k q e (λ w x. (0, refl)) f.1
+      | inr f ↦ syntax all (Wants s after) p k q e (λ w x. (0, refl)) (λ c. (0, refl)) f.1
     ]
-why all (ParamName h) p k q e = name_twice all (ParamName h) h p _ p.sits k q (λ w. Wants 61 (ParamValue h w)) (inl refl) e (λ o w x. no_word p.token.lexeme w o x) e
+why all (ParamName h) p k q e = name_twice all (ParamName h) h p _ p.sits k q (λ w. Wants 61 (ParamValue h w)) (inl refl) e (λ o w x. no_word p.token.lexeme w o x) (λ c. absurd c) e
 why all (ParamValue h name) p k q e =
     elim (wanted_not p.token.place (option_and_then value_of p.token.lexeme) (λ v. Ok (given h name v)) k q e) [
-      | inl none ↦ syntax all (ParamValue h name) p k q e (λ w x. no_value p.token.lexeme w none.0 x) none.1
+      | inl none ↦ syntax all (ParamValue h name) p k q e (λ w x. no_value p.token.lexeme w none.0 x) (λ c. absurd c) none.1
       | inr a ↦ ok_halt (given h name a.0) k q a.2
     ]
 why all (Unsigned h place) p k q e = no_unsigned all (Unsigned h place) (Typed h (kinds.Whole wholes.U32)) (Typed h) p place k q p.held e refl e
-why all (Typed h kind) p k q e = name_twice all (Typed h kind) h p _ p.sits.before k q (λ w. Named h kind w) (inr (p.sits.type, p.sits.is, refl)) e (λ o w x. no_word p.token.lexeme w o x) e
+why all (Typed h kind) p k q e = name_twice all (Typed h kind) h p _ p.sits.before k q (λ w. Named h kind w) (inr (p.sits.type, p.sits.is, refl)) e (λ o w x. no_word p.token.lexeme w o x) (λ c. absurd c) e
 why all (Named h kind name) p k q e =
     elim (either (has 61 p.token.lexeme) (Ok (NumberFor h kind name)) (cond (has 91 p.token.lexeme && is_char kind) (Ok (TextSize h name)) (halt faults.Syntax p.token.place)) (halt k q) e) [
       | inl a ↦ ok_halt (NumberFor h kind name) k q a.1
       | inr f ↦
           elim (either (has 91 p.token.lexeme && is_char kind) (Ok (TextSize h name)) (halt faults.Syntax p.token.place) (halt k q) f.1) [
             | inl a ↦ ok_halt (TextSize h name) k q a.1
-            | inr g ↦ syntax all (Named h kind name) p k q e (λ w x. (0, refl)) g.1
+            | inr g ↦ syntax all (Named h kind name) p k q e (λ w x. (0, refl)) (λ c. (0, refl)) g.1
           ]
     ]
 why all (NumberFor h kind name) p k q e =
     elim (wanted_not p.token.place (option_and_then (number_for kind) p.token.lexeme) (λ v. Ok (given h name v)) k q e) [
-      | inl none ↦ syntax all (NumberFor h kind name) p k q e (λ w x. (0, refl)) none.1
+      | inl none ↦ syntax all (NumberFor h kind name) p k q e (λ w x. (0, refl)) (λ c. absurd c) none.1
       | inr a ↦ ok_halt (given h name a.0) k q a.2
     ]
 why all (TextSize h name) p k q e =
@@ -492,13 +616,13 @@ why all (TextSize h name) p k q e =
       | inl a ↦ ok_halt (Wants 61 (TextValue h name)) k q a.1
       | inr f ↦
           elim (wanted_not p.token.place (option_and_then size_of p.token.lexeme) (λ n. Ok (Wants 93 (Wants 61 (TextValue h name)))) k q f.1) [
-            | inl none ↦ syntax all (TextSize h name) p k q e (λ w x. (0, refl)) none.1
+            | inl none ↦ syntax all (TextSize h name) p k q e (λ w x. (0, refl)) (λ c. absurd c) none.1
             | inr a ↦ ok_halt (Wants 93 (Wants 61 (TextValue h name))) k q a.2
           ]
     ]
 why all (TextValue h name) p k q e =
     elim (wanted_not p.token.place (option_and_then text_in p.token.lexeme) (λ v. Ok (given h name values.Other)) k q e) [
-      | inl none ↦ syntax all (TextValue h name) p k q e (λ w x. (0, refl)) none.1
+      | inl none ↦ syntax all (TextValue h name) p k q e (λ w x. (0, refl)) (λ c. absurd c) none.1
       | inr a ↦ ok_halt (given h name values.Other) k q a.2
     ]
 why all (Fields h row) p k q e =
@@ -507,15 +631,15 @@ why all (Fields h row) p k q e =
       | inl a ↦ ok_halt (Wants 91 (StructSize h row)) k q a.1
       | inr f ↦
           elim (wanted_not t.place (word_in t.lexeme) (on_type t.place (AtItem h row) (FieldUnsigned h row t.place)) k q f.1) [
-            | inl none ↦ syntax all (Fields h row) p k q e (λ w x. no_word t.lexeme w none.0 x) none.1
-            | inr w ↦ on_type_halts all (Fields h row) (AtItem h row (kinds.Whole wholes.I32)) (FieldUnsigned h row t.place) (AtItem h row) p k q w.0 e refl (word_is t.lexeme w.0 w.1) w.2
+            | inl none ↦ syntax all (Fields h row) p k q e (λ w x. no_word t.lexeme w none.0 x) (λ c. absurd c) none.1
+            | inr w ↦ on_type_halts all (Fields h row) (FieldUnsigned h row 0) (AtItem h row (kinds.Whole wholes.U32)) (FieldUnsigned h row t.place) (AtItem h row) p k q w.0 e refl refl (λ c. c) (word_is t.lexeme w.0 w.1) w.2
           ]
     ])
 why all (FieldUnsigned h row place) p k q e = no_unsigned all (FieldUnsigned h row place) (AtItem h row (kinds.Whole wholes.U32)) (AtItem h row) p place k q p.held e refl e
 why all (AtItem h row kind) p k q e =
     (let t = p.token in
     elim (wanted_not t.place (word_in t.lexeme) (on_item h row kind t.place) k q e) [
-      | inl none ↦ syntax all (AtItem h row kind) p k q e (λ w x. no_word t.lexeme w none.0 x) none.1
+      | inl none ↦ syntax all (AtItem h row kind) p k q e (λ w x. no_word t.lexeme w none.0 x) (λ c. absurd c) none.1
       | inr w ↦
           elim (either (has_field w.0 row.fields) (halt faults.NameTwice t.place) (cond (length row.fields == max_columns) (halt faults.TooWide t.place) (Ok (ItemName h row kind w.0 t.place))) (halt k q) w.2) [
             | inl a ↦ moved all faults.NameTwice k t.place q a.1 (record {
@@ -539,13 +663,13 @@ why all (ItemName h row kind name place) p k q e =
       | inr f ↦
           elim (or_halt_not faults.TooWide place (widened row kind name 1 false) (λ wider. on_item_end h wider kind t) k q f.1) [
             | inl none ↦ too_wide all (ItemName h row kind name place) h row kind name place [] p k q 1 p.held (wide_not row kind name 1 false none.0) (Plain t.lexeme (spelling p.after) (no_bracket t.lexeme f.0)) none.1
-            | inr w ↦ on_item_end_halts all (ItemName h row kind name place) h w.0 kind p k q e (0, ap (λ o. or_halt faults.TooWide place o (λ wider. on_item_end h wider kind int_token)) w.1) w.2
+            | inr w ↦ on_item_end_halts all (ItemName h row kind name place) h w.0 kind p k q e (0, ap (λ o. or_halt faults.TooWide place o (λ wider. on_item_end h wider kind lone_unsigned)) w.1) (λ c. (0, ap (λ o. or_halt faults.TooWide place o (λ wider. on_item_end h wider kind int_token)) w.1)) w.2
           ]
     ])
 why all (Length h row kind name place) p k q e =
     (let t = p.token in
     elim (wanted_not t.place (option_and_then length_of t.lexeme) (λ n. or_halt faults.TooWide place (widened row kind name n true) (λ wider. Ok (Wants 93 (ItemEnd h wider kind)))) k q e) [
-      | inl none ↦ syntax all (Length h row kind name place) p k q e (λ w x. (0, refl)) none.1
+      | inl none ↦ syntax all (Length h row kind name place) p k q e (λ w x. (0, refl)) (λ c. absurd c) none.1
       | inr n ↦
           elim (or_halt_not faults.TooWide place (widened row kind name n.0 true) (λ wider. Ok (Wants 93 (ItemEnd h wider kind))) k q n.2) [
             | inl none ↦
@@ -555,13 +679,13 @@ why all (Length h row kind name place) p k q e =
             | inr w ↦ ok_halt (Wants 93 (ItemEnd h w.0 kind)) k q w.2
           ]
     ])
-why all (ItemEnd h row kind) p k q e = on_item_end_halts all (ItemEnd h row kind) h row kind p k q e (0, refl) e
+why all (ItemEnd h row kind) p k q e = on_item_end_halts all (ItemEnd h row kind) h row kind p k q e (0, refl) (λ c. absurd c) e
 why all (StructSize h row) p k q e =
     elim (either (has 93 p.token.lexeme) (Ok (closed h row None)) (wanted p.token.place (option_and_then size_of p.token.lexeme) (λ n. Ok (Wants 93 (closed h row (Some n))))) (halt k q) e) [
       | inl a ↦ ok_halt (closed h row None) k q a.1
       | inr f ↦
           elim (wanted_not p.token.place (option_and_then size_of p.token.lexeme) (λ n. Ok (Wants 93 (closed h row (Some n)))) k q f.1) [
-            | inl none ↦ syntax all (StructSize h row) p k q e (λ w x. (0, refl)) none.1
+            | inl none ↦ syntax all (StructSize h row) p k q e (λ w x. (0, refl)) (λ c. absurd c) none.1
             | inr a ↦ ok_halt (Wants 93 (closed h row (Some a.0))) k q a.2
           ]
     ]
@@ -570,6 +694,6 @@ why all (StructSize h row) p k q e =
 pub fault_at : (text : List ℕ) (f : Fault) → header_in text ≡ Err f → FaultAt text f.kind (length text - f.left)
 fault_at text f e =
     let h = halted (Start nothing_given) (tokens text) f.kind (length text - f.left) (header_goes (length text) text ∙ ap (onward (length text) done) e) in
-    let p : Place (tokens text) h.state = record { before = h.before; token = h.token; after = h.after; is = h.is; run = h.run; sits = sits_all h.before (Start nothing_given) h.state [] h.run nothing_sits; held = holds_all h.before (Start nothing_given) h.state [] h.run nothing_sits tt } in
+    let p : Place (tokens text) h.state = record { before = h.before; token = h.token; after = h.after; is = h.is; run = h.run; sits = sits_all h.before (Start nothing_given) h.state [] h.run nothing_sits; held = holds_all h.before (Start nothing_given) h.state [] h.run nothing_sits tt; after_unsigned = after_all h.before (Start nothing_given) h.state [] h.run nothing_after } in
     let d = why (tokens text) h.state p f.kind (length text - f.left) h.halts in
     record { before = d.before; token = d.token; after = d.after; is = d.is; stands = d.stands; decides = d.decides }

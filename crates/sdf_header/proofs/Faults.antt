@@ -21,7 +21,7 @@ use Rattle.sdf_header.specs.Parts.{is_the, size_of, unsigned_type, word_of}
 use Rattle.sdf_header.specs.Fields.{Row, has_field, length_of, no_fields}
 use Rattle.sdf_header.specs.Statements.{Header, with_param, with_struct, nothing_given, value_of, number_for, header_in}
 use Rattle.sdf_header.specs.Grammar.{Spelling, spelling, word, sign, count, TypeName, types, type_in, IsType, Item, FieldLine, Statement, Parameter, Constant, Label, Struct, IsSize, IsLength, AreItems, AreLines, IsStatement, AreStatements, spell_type, spell_size, spell_item, spell_earlier, spell_line, spell_lines, spell, spell_each, Spells, and_item, and_items, ItemsFit, and_lines, LinesFit, AllFit, said}
-use Rattle.sdf_header.specs.Faults.{Continues, Stops, TakesInt, StandsBehind, IsLead, NameGiven, ColumnStands, HasValues, Plain, Array, IsTooWide, IsNoType, Decides, FaultAt, IsHeader}
+use Rattle.sdf_header.specs.Faults.{Continues, Stops, StandsBehind, IsLead, NameGiven, ColumnStands, HasValues, Plain, Array, IsTooWide, IsNoType, Decides, FaultAt, IsHeader}
 use Rattle.sdf_header.specs.Judgement.{IsOfSense}
 use Rattle.sdf_header.proofs.Machine.{Halt, halt, State, Done, Start, Wants, ParamName, ParamValue, Unsigned, Typed, Named, NumberFor, TextSize, TextValue, Fields, FieldUnsigned, Item as AtItem, ItemName, Length, ItemEnd, StructSize, wanted, has, ends, word_in, widened, or_halt, given, closed, on_type, on_statement, on_name, on_item, on_item_end, text_in, step, and_then, goes}
 use Rattle.sdf_header.proofs.Simulation.{onward, done, header_goes}
@@ -171,3 +171,7 @@ is_header text h e =
 
 pub header_is : (text : List ℕ) (h : Header) → IsHeader text h → header_in text ≡ Ok h
 header_is text h i = ok_only (header_in text) (length text) h (sym (header_goes (length text) text) ∙ ends_well nothing_given i.statements (tokens text) i.spells.are i.spells.spelled i.fit ∙ ap done i.say)
+
+-- what can go on, can before its last tokens
+pub front_continues : (a b : Spelling) → Continues (a ++ b) → Continues a
+front_continues a b c = record { more = b ++ c.more; statements = c.statements; spells = record { are = c.spells.are; spelled = sym (append_assoc a b c.more) ∙ c.spells.spelled } }

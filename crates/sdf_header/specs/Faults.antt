@@ -20,9 +20,17 @@ pub record Continues (tokens : Spelling) : Type 0 where
 abbrev pub Stops : Spelling → Option Lexeme → Type 0
 Stops before x = Continues before × (Continues (before ++ x ∷ []) → ⊥)
 
--- the word `int` can stand behind the tokens
-abbrev pub TakesInt : Spelling → Type 0
-TakesInt before = Continues (before ++ word (codes "int") ∷ [])
+-- a type can stand behind the tokens
+abbrev pub TypeWanted : Spelling → Type 0
+TypeWanted before = Continues (before ++ word (codes "unsigned") ∷ word (codes "int") ∷ [])
+
+-- the last of the tokens is `unsigned`, where a type is wanted
+abbrev pub BehindUnsigned : Spelling → Type 0
+BehindUnsigned before = (front : Spelling) × (before ≡ front ++ word (codes "unsigned") ∷ []) × TypeWanted front
+
+-- a word stands where a type is wanted
+abbrev pub IsTypeWord : Spelling → Option Lexeme → Type 0
+IsTypeWord before x = (w : List ℕ) × (x ≡ word w) × TypeWanted before
 
 -- the tokens are whole statements that fit, and a part of one more
 pub record StandsBehind (before : Spelling) (statements : List Statement) (part : Spelling) : Type 0 where
@@ -70,16 +78,15 @@ pub record IsTooWide (before after : Spelling) (name : List ℕ) : Type 0 where
   pub new : has_field name row.fields ≡ false
   pub wide : ((length row.fields == max_columns) ≡ true) ⊎ ((n : ℕ) × HasValues after n × (nat_lt max_row_bytes (row.width + bytes_of type.kind * n) ≡ true))
 
--- a word that is no type stands where `int` could stand; or `unsigned` does, and the token behind it is no
--- word that makes a type of it
+-- a word stops where a type is wanted; or `unsigned` stands there, and the token behind it stops
 abbrev pub IsNoType : Spelling → Option Lexeme → Spelling → Type 0
 IsNoType before x after =
-    ((w : List ℕ) × (x ≡ word w) × Stops before x × TakesInt before)
-    ⊎ ((x ≡ word (codes "unsigned")) × TakesInt (before ++ x ∷ []) × (y : Option Lexeme) × (more : Spelling) × (after ≡ y ∷ more) × Stops (before ++ x ∷ []) y)
+    (Stops before x × IsTypeWord before x × (BehindUnsigned before → ⊥))
+    ⊎ ((x ≡ word (codes "unsigned")) × TypeWanted before × (y : Option Lexeme) × (more : Spelling) × (after ≡ y ∷ more) × Stops (before ++ x ∷ []) y)
 
--- the token decides a fault of this kind
+-- the token decides a fault of this kind: where it stops and that is no fault of a type, of the syntax
 abbrev pub Decides : FaultKind → Spelling → Option Lexeme → Spelling → Type 0
-Decides faults.Syntax before x after = Stops before x × ((w : List ℕ) → x ≡ word w → TakesInt before → ⊥)
+Decides faults.Syntax before x after = Stops before x × (IsTypeWord before x → ⊥) × (BehindUnsigned before → ⊥)
 Decides faults.UnknownType before x after = IsNoType before x after
 Decides faults.NameTwice before x after = (name : List ℕ) × (x ≡ word name) × (NameGiven before name ⊎ ((type : TypeName) × (row : Row) × ColumnStands before type row × (has_field name row.fields ≡ true)))
 Decides faults.SecondStruct before x after = (x ≡ word (codes "struct")) × (statements : List Statement) × StandsBehind before statements [] × (is_some (said statements).table ≡ true)
