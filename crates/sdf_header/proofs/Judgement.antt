@@ -24,7 +24,7 @@ use Rattle.sdf_header.specs.Statements.{Header, header_in}
 use Rattle.sdf_header.specs.Faults.{FaultAt, IsHeader}
 use Rattle.sdf_header.specs.Extent.{Extent, Faulty, Ends, Open, extent, extent_from, agrees, magic, ending}
 use Rattle.sdf_header.specs.Verdict.{◌>>=◌, or_fault, column, whole, axes_of, optional_of, order_of, whole_param, small_param, cube_of, mass_of, count_of, layout_of, placed, at_place, judged, unended, verdict_from, verdict}
-use Rattle.sdf_header.specs.Judgement.{SaysOf, TokenFault, IsOfSense, SpellingFault, FaultOf, LayoutOfStatements, FaultHasReason, SenseDecides}
+use Rattle.sdf_header.specs.Judgement.{SaysOf, TokenFault, IsOfSense, SpellingFault, FaultOf, LayoutOfStatements, FaultByReason}
 use Rattle.sdf_header.proofs.Faults.{is_header, header_is}
 use Rattle.sdf_header.specs.Statements.{nothing_given}
 use Rattle.sdf_header.specs.TokenList.{tokens}
@@ -32,6 +32,7 @@ use Rattle.sdf_header.proofs.Machine.{Halt, halt, State, Start, goes}
 use Rattle.sdf_header.proofs.Simulation.{onward, done, header_goes}
 use Rattle.sdf_header.proofs.Converse.{sense_halts}
 use Rattle.sdf_header.proofs.Decided.{fault_at}
+use Rattle.sdf_header.proofs.Unique.{one_fault, fault_stops, header_has_none}
 
 -- ---- faults of what statements say are no faults of the text
 
@@ -173,7 +174,7 @@ halted_is z (Ok h) k p e = ok_halt h k p e
 halted_is z (Err f) k p e = ap refused (halt_is (record { kind = f.kind; place = z - f.left }) (record { kind = k; place = p }) e)
 
 -- a token that decides a fault of what statements say is the verdict
-pub senses : (bytes : List ℕ) → SenseDecides bytes
+senses : (bytes : List ℕ) (kind : FaultKind) (place : ℕ) → IsOfSense kind → TokenFault bytes kind place → verdict bytes ≡ Err (at_place kind place)
 unfolding verdict judged
 senses bytes kind place sense t =
     let text = take t.text bytes in
@@ -278,6 +279,53 @@ fault_from bytes f (Faulty g) ends e v =
 fault_from bytes f Open ends e v = open_fault bytes (nat_lt (length bytes) 5) f refl ends (err_is (unended (length bytes)) f e)
 fault_from bytes f (Ends text len) ends e v = fault_says bytes text len f ends (header_in (take text bytes)) refl e v
 
-pub reasons : (bytes : List ℕ) → FaultHasReason bytes
+-- ---- a reason is enough
+
+sense_or : (k : FaultKind) → IsOfSense k ⊎ (IsOfSense k → ⊥)
+sense_or kinds.Syntax = inr (λ x. x)
+sense_or kinds.UnknownType = inr (λ x. x)
+sense_or kinds.NameTwice = inl tt
+sense_or kinds.SecondStruct = inl tt
+sense_or kinds.TooWide = inl tt
+
+spells_wrong : (bytes : List ℕ) (text len : ℕ) (kind : FaultKind) (place : ℕ) → extent bytes ≡ Ends text len → (IsOfSense kind → ⊥) → FaultAt (take text bytes) kind place → ((other : FaultKind) (p : ℕ) → IsOfSense other → TokenFault bytes other p → ⊥)
+    → (r : Result Header Fault) → header_in (take text bytes) ≡ r → placed (length (take text bytes)) r ≡ Err (at_place kind place)
+spells_wrong bytes text len kind place ends bad at none (Ok h) e = absurd (header_has_none (take text bytes) h (is_header (take text bytes) h e) (fault_stops (take text bytes) kind place bad at).stop)
+spells_wrong bytes text len kind place ends bad at none (Err f) e =
+    (let mine = fault_at (take text bytes) f e in
+    elim (sense_or f.kind) [
+      | inl sense ↦ absurd (none f.kind (length (take text bytes) - f.left) sense (record { text = text; len = len; ends = ends; fault = mine }))
+      | inr not_sense ↦
+          (let same = one_fault (tokens (take text bytes)) f.kind kind (length (take text bytes) - f.left) place (fault_stops (take text bytes) f.kind (length (take text bytes) - f.left) not_sense mine) (fault_stops (take text bytes) kind place bad at) in
+          ap (λ k. refused (record { kind = k; place = length (take text bytes) - f.left })) same.0 ∙ ap (λ p. refused (record { kind = kind; place = p })) same.1)
+    ])
+
+spelling_verdict : (bytes : List ℕ) (kind : FaultKind) (place : ℕ) → (IsOfSense kind → ⊥) → SpellingFault bytes kind place → verdict bytes ≡ Err (at_place kind place)
+unfolding verdict judged
+spelling_verdict bytes kind place bad s =
+    let t = s.0 in
+    ap (verdict_from bytes) t.ends ∙ ap (λ r. r >>= layout_of t.len) (spells_wrong bytes t.text t.len kind place t.ends bad t.fault s.1 (header_in (take t.text bytes)) refl)
+
+abbrev fails : HeaderFault → Result LayoutValue HeaderFault
+fails f = Err f
+
+with_reason : (bytes : List ℕ) (f : HeaderFault) → FaultOf bytes f → verdict bytes ≡ Err f
 unfolding verdict
-reasons bytes f e = fault_from bytes f (extent bytes) refl e e
+with_reason bytes faults.NoMagic (inl e) = ap (verdict_from bytes) e
+with_reason bytes faults.NoMagic (inr e) = ap (verdict_from bytes) e.0 ∙ ap fails e.1
+with_reason bytes faults.TooLong e = ap (verdict_from bytes) e
+with_reason bytes faults.NoEnd e = ap (verdict_from bytes) e.0 ∙ ap fails e.1
+with_reason bytes (faults.Syntax place) s = spelling_verdict bytes kinds.Syntax place (λ x. x) s
+with_reason bytes (faults.UnknownType place) s = spelling_verdict bytes kinds.UnknownType place (λ x. x) s
+with_reason bytes (faults.NameTwice place) t = senses bytes kinds.NameTwice place tt t
+with_reason bytes (faults.SecondStruct place) t = senses bytes kinds.SecondStruct place tt t
+with_reason bytes (faults.TooWide place) t = senses bytes kinds.TooWide place tt t
+with_reason bytes faults.NoStruct s = says_layout bytes (Err faults.NoStruct) s
+with_reason bytes (faults.Missing name) s = says_layout bytes (Err (faults.Missing name)) s
+with_reason bytes (faults.NotWhole name) s = says_layout bytes (Err (faults.NotWhole name)) s
+with_reason bytes (faults.BadParameter name) s = says_layout bytes (Err (faults.BadParameter name)) s
+with_reason bytes (faults.TooMany n) s = says_layout bytes (Err (faults.TooMany n)) s
+
+pub reasons : (bytes : List ℕ) → FaultByReason bytes
+unfolding verdict
+reasons bytes f = (λ e. fault_from bytes f (extent bytes) refl e e, λ s. with_reason bytes f s)

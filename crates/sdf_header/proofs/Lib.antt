@@ -17,3 +17,4 @@ pub mod Faults
 pub mod Decided
 pub mod Judgement
 pub mod Converse
+pub mod Unique

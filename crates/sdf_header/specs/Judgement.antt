@@ -8,7 +8,7 @@ use Rattle.sdf_header.specs.Layouts.{LayoutValue}
 use Rattle.sdf_header.specs.Statements.{Header}
 use Rattle.sdf_header.specs.Faults.{FaultAt, IsHeader}
 use Rattle.sdf_header.specs.Extent.{Extent, Faulty, Ends, Open, extent}
-use Rattle.sdf_header.specs.Verdict.{at_place, layout_of, unended, verdict}
+use Rattle.sdf_header.specs.Verdict.{layout_of, unended, verdict}
 
 -- the text in front of the ending line is a header of fitting statements, and what they say gives this
 pub record SaysOf (bytes : List ℕ) (given : Result LayoutValue HeaderFault) : Type 0 where
@@ -59,10 +59,6 @@ FaultOf bytes (faults.TooMany n) = SaysOf bytes (Err (faults.TooMany n))
 abbrev pub LayoutOfStatements : List ℕ → Type 0
 LayoutOfStatements bytes = (layout : LayoutValue) → (verdict bytes ≡ Ok layout) ↔ SaysOf bytes (Ok layout)
 
--- an input that is refused has the fault for its own reason
-abbrev pub FaultHasReason : List ℕ → Type 0
-FaultHasReason bytes = (f : HeaderFault) → verdict bytes ≡ Err f → FaultOf bytes f
-
--- a token that decides a fault of what statements say is the verdict
-abbrev pub SenseDecides : List ℕ → Type 0
-SenseDecides bytes = (kind : FaultKind) (place : ℕ) → IsOfSense kind → TokenFault bytes kind place → verdict bytes ≡ Err (at_place kind place)
+-- an input has this fault exactly where there is this reason for it
+abbrev pub FaultByReason : List ℕ → Type 0
+FaultByReason bytes = (f : HeaderFault) → (verdict bytes ≡ Err f) ↔ FaultOf bytes f
