@@ -1,6 +1,6 @@
 -- A token that decides a fault of what statements say ends the run.
-use Rattle.std.proofs.Common.{◌≡◌, ℕ, zero, suc, ◌+◌, ◌*◌, ◌-◌, ◌<◌, ◌≤◌, Bool, true, false, cond, ◌&&◌, ◌⊎◌, inl, inr, List, [], ◌∷◌, ◌++◌, length, map, Option, Some, None, Result, Ok, Err, pos, refl, sym, ap, subst, ◌∙◌, append_assoc, arith}
-use Rattle.std.specs.Prelude.{option_and_then, if◌then◌else◌, is_some, codes, nat_lt, nat_le, ◌==◌}
+use Rattle.std.proofs.Common.{◌≡◌, ℕ, suc, ◌+◌, ◌*◌, ◌≤◌, Bool, true, false, ◌⊎◌, inl, inr, List, [], ◌∷◌, ◌++◌, length, Option, Some, None, Result, pos, refl, sym, ap, subst, ◌∙◌, arith}
+use Rattle.std.specs.Prelude.{if◌then◌else◌, is_some, codes, nat_lt, ◌==◌}
 use Rattle.std.proofs.lemmas.Bool.{cases_Bool, le-leb}
 use Rattle.std.proofs.lemmas.List.{length-append}
 use Rattle.hot_model.specs.Limits.{max_columns, max_row_bytes}
@@ -8,16 +8,16 @@ use Rattle.sdf_header.specs.declared.fault.FaultKind.{FaultKind}
 use Rattle.sdf_header.specs.declared.fault.FaultKind.TheVariants as faults
 use Rattle.sdf_header.specs.declared.kind.Kind.{Kind}
 use Rattle.sdf_header.specs.Limits.{max_array_length}
-use Rattle.sdf_header.specs.Tokens.{Lexeme, Number, End}
+use Rattle.sdf_header.specs.Tokens.{Lexeme, Number}
 use Rattle.sdf_header.specs.TokenList.{Token}
 use Rattle.sdf_header.specs.Types.{bytes_of}
 use Rattle.sdf_header.specs.Fields.{Row, has_field, length_of, no_fields}
 use Rattle.sdf_header.specs.Statements.{Header, nothing_given}
-use Rattle.sdf_header.specs.Grammar.{Spelling, spelling, word, sign, count, TypeName, IsType, Item, FieldLine, Statement, Parameter, Constant, Label, Struct, IsLength, AllFit, spell_type, spell_size, spell_length, spell_item, spell_earlier, spell_line, spell_lines, spell, spell_each, and_items, and_lines, ItemsFit, LinesFit, said}
-use Rattle.sdf_header.specs.Faults.{StandsBehind, IsLead, NameGiven, ColumnStands, HasValues, Plain, Array, IsTooWide, Decides}
+use Rattle.sdf_header.specs.Grammar.{Spelling, spelling, word, sign, count, TypeName, IsType, Item, FieldLine, Statement, Parameter, Constant, Label, Struct, AllFit, spell_type, spell_size, spell_length, spell_item, spell_earlier, spell_line, spell_lines, spell, spell_each, and_lines, ItemsFit, LinesFit, said}
+use Rattle.sdf_header.specs.Faults.{StandsBehind, NameGiven, ColumnStands, HasValues, Plain, Array, IsTooWide, Decides}
 use Rattle.sdf_header.specs.Judgement.{IsOfSense}
-use Rattle.sdf_header.proofs.Machine.{Halt, halt, State, Start, Wants, ParamName, ParamValue, Unsigned, Typed, Named, Fields, FieldUnsigned, Item as AtItem, ItemName, Length, wanted, has, word_in, widened, or_halt, on_name, on_item, on_item_end, step, and_then, goes}
-use Rattle.sdf_header.proofs.Leads.{GoesOn, Leads, one, on, lead_type, lead_lines, lead_earlier, lead_each, since_fits}
+use Rattle.sdf_header.proofs.Machine.{Halt, halt, State, Start, Wants, ParamName, ParamValue, Unsigned, Typed, Named, Fields, FieldUnsigned, Item as AtItem, ItemName, wanted, has, word_in, on_name, on_item, step, and_then, goes}
+use Rattle.sdf_header.proofs.Leads.{GoesOn, one, on, lead_type, lead_lines, lead_earlier, lead_each, since_fits}
 use Rattle.sdf_header.proofs.Sits.{sign_is}
 use Rattle.sdf_header.proofs.Faults.{spelling-append}
 
@@ -91,8 +91,8 @@ halts_now all before t after s r is g e =
 comes : (all before : List Token) (t : Token) (after : List Token) (ss : List Statement) (part : Spelling) → all ≡ before ++ t ∷ after → StandsBehind (spelling before) ss part → GoesOn (Start nothing_given) all (Start (said ss)) (part ++ t.lexeme ∷ spelling after)
 comes all before t after ss part is b =
     since_fits (Start nothing_given) (Start (said ss)) all _ (AllFit nothing_given ss)
-        (lead_each nothing_given ss all (part ++ t.lexeme ∷ spelling after) b.are (ap spelling is ∙ spelling-append before (t ∷ after) ∙ ap (λ x. x ++ t.lexeme ∷ spelling after) b.spelled ∙ each-append ss part (t.lexeme ∷ spelling after)))
-        b.fit
+    (lead_each nothing_given ss all (part ++ t.lexeme ∷ spelling after) b.are (ap spelling is ∙ spelling-append before (t ∷ after) ∙ ap (λ x. x ++ t.lexeme ∷ spelling after) b.spelled ∙ each-append ss part (t.lexeme ∷ spelling after)))
+    b.fit
 
 start_type : (h : Header) (t : TypeName) (ts : List Token) (rest : Spelling) → IsType t → spelling ts ≡ spell_type t rest → GoesOn (Start h) ts (Typed h t.kind) rest
 start_type h t ts rest is e = lead_type (Start h) (Typed h) (Unsigned h) t ts rest (λ w p s place. rw (p, s) refl) (λ place t. refl) is e
@@ -123,13 +123,13 @@ column_comes all before t after type row is c =
     let inside = and_lines no_fields c.lines in
     let later = AtItem h row type.kind in
     let spelled : (word (codes "struct") ∷ sign 123 ∷ spell_lines c.lines (spell_type type (spell_earlier c.earlier []))) ++ rest ≡ word (codes "struct") ∷ sign 123 ∷ lines =
-        ap (λ x. word (codes "struct") ∷ sign 123 ∷ x) (lines-append c.lines (spell_type type (spell_earlier c.earlier [])) rest ∙ ap (spell_lines c.lines) (type-append type (spell_earlier c.earlier []) rest ∙ ap (spell_type type) (earlier-append c.earlier [] rest))) in
+    ap (λ x. word (codes "struct") ∷ sign 123 ∷ x) (lines-append c.lines (spell_type type (spell_earlier c.earlier [])) rest ∙ ap (spell_lines c.lines) (type-append type (spell_earlier c.earlier []) rest ∙ ap (spell_type type) (earlier-append c.earlier [] rest))) in
     on (Start nothing_given) (Start h) later all _ rest (comes all before t after c.statements _ is c.behind) (λ ts e.
-        on (Start h) (Wants 123 (Fields h no_fields)) later ts (sign 123 ∷ lines) rest (one (Start h) (Wants 123 (Fields h no_fields)) ts (word (codes "struct")) _ (e ∙ spelled) (λ place. rw c.first refl)) (λ ts e.
-            on (Wants 123 (Fields h no_fields)) (Fields h no_fields) later ts lines rest (one (Wants 123 (Fields h no_fields)) (Fields h no_fields) ts (sign 123) _ e (λ place. refl)) (λ ts e.
-                on (Fields h no_fields) (Fields h inside) later ts (spell_type type items) rest (since_fits _ _ ts _ (LinesFit no_fields c.lines) (lead_lines h no_fields c.lines ts (spell_type type items) c.lines_are e) c.lines_fit) (λ ts e.
-                    on (Fields h inside) (AtItem h inside type.kind) later ts items rest (lead_type (Fields h inside) (AtItem h inside) (FieldUnsigned h inside) type ts items (λ w p s place. refl) (λ place t. refl) c.is e) (λ ts e.
-                        subst (λ r. GoesOn (AtItem h inside type.kind) ts (AtItem h r type.kind) rest) c.row_is (since_fits _ _ ts _ (ItemsFit type.kind inside c.earlier) (lead_earlier h inside type.kind c.earlier ts rest c.items_are e) c.items_fit))))))
+    on (Start h) (Wants 123 (Fields h no_fields)) later ts (sign 123 ∷ lines) rest (one (Start h) (Wants 123 (Fields h no_fields)) ts (word (codes "struct")) _ (e ∙ spelled) (λ place. rw c.first refl)) (λ ts e.
+    on (Wants 123 (Fields h no_fields)) (Fields h no_fields) later ts lines rest (one (Wants 123 (Fields h no_fields)) (Fields h no_fields) ts (sign 123) _ e (λ place. refl)) (λ ts e.
+    on (Fields h no_fields) (Fields h inside) later ts (spell_type type items) rest (since_fits _ _ ts _ (LinesFit no_fields c.lines) (lead_lines h no_fields c.lines ts (spell_type type items) c.lines_are e) c.lines_fit) (λ ts e.
+    on (Fields h inside) (AtItem h inside type.kind) later ts items rest (lead_type (Fields h inside) (AtItem h inside) (FieldUnsigned h inside) type ts items (λ w p s place. refl) (λ place t. refl) c.is e) (λ ts e.
+    subst (λ r. GoesOn (AtItem h inside type.kind) ts (AtItem h r type.kind) rest) c.row_is (since_fits _ _ ts _ (ItemsFit type.kind inside c.earlier) (lead_earlier h inside type.kind c.earlier ts rest c.items_are e) c.items_fit))))))
 
 item_step : (h : Header) (row : Row) (kind : Kind) (t : Token) (name : List ℕ) → t.lexeme ≡ word name → step (AtItem h row kind) t ≡ on_item h row kind t.place name
 item_step h row kind t name x = ap (λ y. wanted t.place (word_in y) (on_item h row kind t.place)) x
@@ -137,12 +137,12 @@ item_step h row kind t name x = ap (λ y. wanted t.place (word_in y) (on_item h 
 column_twice : (all before : List Token) (t : Token) (after : List Token) (name : List ℕ) (type : TypeName) (row : Row) → all ≡ before ++ t ∷ after → t.lexeme ≡ word name → ColumnStands (spelling before) type row → has_field name row.fields ≡ true → goes (Start nothing_given) all ≡ halt faults.NameTwice t.place
 column_twice all before t after name type row is x c has_it =
     halts_now all before t after (AtItem (said c.statements) row type.kind) _ is (column_comes all before t after type row is c)
-        (ap (λ r. and_then r (λ s. goes s after)) (item_step (said c.statements) row type.kind t name x) ∙ rw has_it refl)
+    (ap (λ r. and_then r (λ s. goes s after)) (item_step (said c.statements) row type.kind t name x) ∙ rw has_it refl)
 
 struct_halts : (all before : List Token) (t : Token) (after : List Token) (ss : List Statement) → all ≡ before ++ t ∷ after → t.lexeme ≡ word (codes "struct") → StandsBehind (spelling before) ss [] → is_some (said ss).table ≡ true → goes (Start nothing_given) all ≡ halt faults.SecondStruct t.place
 struct_halts all before t after ss is x b second =
     halts_now all before t after (Start (said ss)) _ is (comes all before t after ss [] is b)
-        (ap (λ y. and_then (step (Start (said ss)) (record { lexeme = y; place = t.place })) (λ s. goes s after)) x ∙ rw second refl)
+    (ap (λ y. and_then (step (Start (said ss)) (record { lexeme = y; place = t.place })) (λ s. goes s after)) x ∙ rw second refl)
 
 -- behind its name a column shows to be too wide
 length_known : (n : ℕ) → (1 ≤ n) × (n ≤ max_array_length) → length_of (Number (Some (pos n))) ≡ Some n
@@ -172,10 +172,11 @@ behind_name h row kind name place (t ∷ u ∷ after) x n e (Array m more is) wi
 wide_halts : (all before : List Token) (t : Token) (after : List Token) (name : List ℕ) → all ≡ before ++ t ∷ after → t.lexeme ≡ word name → IsTooWide (spelling before) (spelling after) name → goes (Start nothing_given) all ≡ halt faults.TooWide t.place
 wide_halts all before t after name is x w =
     halts_now all before t after (AtItem h w.row w.type.kind) _ is (column_comes all before t after w.type w.row is w.column)
-        (ap (λ r. and_then r (λ s. goes s after)) (item_step h w.row w.type.kind t name x) ∙ go (cases_Bool (length w.row.fields == max_columns)))
+    (ap (λ r. and_then r (λ s. goes s after)) (item_step h w.row w.type.kind t name x) ∙ go (cases_Bool (length w.row.fields == max_columns)))
   where
     h : Header
     h = said w.column.statements
+
     go : (((length w.row.fields == max_columns) ≡ true) ⊎ ((length w.row.fields == max_columns) ≡ false)) → and_then (on_item h w.row w.type.kind t.place name) (λ s. goes s after) ≡ halt faults.TooWide t.place
     go (inl full) = rw (w.new, full) refl
     go (inr room) =

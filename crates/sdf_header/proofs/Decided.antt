@@ -1,8 +1,7 @@
 -- What the token decides at which a run halts.
-use Rattle.std.proofs.Common.{◌≡◌, ℕ, zero, suc, ◌+◌, ◌*◌, ◌-◌, ◌<◌, ◌≤◌, Bool, true, false, cond, ◌&&◌, ◌⊎◌, inl, inr, List, [], ◌∷◌, ◌++◌, length, map, Option, Some, None, Result, Ok, Err, refl, sym, ap, subst, ◌∙◌, append_assoc, arith}
-use Rattle.std.specs.Prelude.{option_and_then, if◌then◌else◌, is_some, codes, nat_lt, ◌==◌}
+use Rattle.std.proofs.Common.{◌≡◌, ℕ, ◌+◌, ◌*◌, ◌-◌, Bool, true, false, cond, ◌&&◌, ◌⊎◌, inl, inr, List, [], ◌∷◌, ◌++◌, length, Option, Some, None, Result, Ok, Err, refl, sym, ap, subst, ◌∙◌, append_assoc}
+use Rattle.std.specs.Prelude.{option_and_then, is_some, codes, nat_lt, ◌==◌}
 use Rattle.std.specs.Str.{bytes_eq}
-use Rattle.std.proofs.lemmas.Bool.{cases_Bool}
 use Rattle.std.proofs.lemmas.List.{append-nil}
 use Rattle.std.proofs.lemmas.Slice.Eq.{bytes_eq-Decides}
 use Rattle.hot_model.specs.Limits.{max_columns, max_row_bytes}
@@ -12,21 +11,20 @@ use Rattle.sdf_header.specs.declared.fault.FaultKind.TheVariants as faults
 use Rattle.sdf_header.specs.declared.kind.Kind.{Kind}
 use Rattle.sdf_header.specs.declared.kind.Kind.TheVariants as kinds
 use Rattle.sdf_header.specs.declared.kind.Whole.TheVariants as wholes
-use Rattle.sdf_header.specs.declared.document.Value.{Value}
 use Rattle.sdf_header.specs.declared.document.Value.TheVariants as values
-use Rattle.sdf_header.specs.Tokens.{Lexeme, Word, Number, Text, Sign, End}
+use Rattle.sdf_header.specs.Tokens.{Lexeme}
 use Rattle.sdf_header.specs.TokenList.{Token, tokens}
-use Rattle.sdf_header.specs.Types.{kind_named, unsigned_kind, bytes_of, is_char}
-use Rattle.sdf_header.specs.Parts.{is_the, size_of, unsigned_type, word_of}
+use Rattle.sdf_header.specs.Types.{kind_named, bytes_of, is_char}
+use Rattle.sdf_header.specs.Parts.{size_of, unsigned_type}
 use Rattle.sdf_header.specs.Fields.{Row, has_field, length_of, no_fields}
-use Rattle.sdf_header.specs.Statements.{Header, with_param, with_struct, nothing_given, value_of, number_for, header_in}
-use Rattle.sdf_header.specs.Grammar.{Spelling, spelling, word, sign, count, TypeName, IsType, Item, FieldLine, Statement, IsLength, spell_type, spell_earlier, spell_lines, spell_each, and_items, ItemsFit, and_lines, LinesFit, AllFit, said}
-use Rattle.sdf_header.specs.Faults.{Continues, Stops, TypeWanted, BehindUnsigned, IsTypeWord, StandsBehind, IsLead, NameGiven, ColumnStands, HasValues, Plain, Array, IsTooWide, IsNoType, Decides, FaultAt}
+use Rattle.sdf_header.specs.Statements.{Header, nothing_given, value_of, number_for, header_in}
+use Rattle.sdf_header.specs.Grammar.{Spelling, spelling, word, sign, and_items, ItemsFit}
+use Rattle.sdf_header.specs.Faults.{Continues, Stops, TypeWanted, BehindUnsigned, IsTypeWord, StandsBehind, IsLead, ColumnStands, HasValues, Plain, Array, Decides, FaultAt}
 use Rattle.sdf_header.specs.Judgement.{IsOfSense}
 use Rattle.sdf_header.proofs.Machine.{Halt, halt, State, Done, Start, Wants, ParamName, ParamValue, Unsigned, Typed, Named, NumberFor, TextSize, TextValue, Fields, FieldUnsigned, Item as AtItem, ItemName, Length, ItemEnd, StructSize, wanted, has, ends, word_in, widened, or_halt, given, closed, on_type, on_statement, on_name, on_item, on_item_end, text_in, step, and_then, goes}
 use Rattle.sdf_header.proofs.Simulation.{onward, done, header_goes}
-use Rattle.sdf_header.proofs.Sits.{Before, InType, InStruct, InLine, NewItem, Sits, sits_on, either, wanted_is, or_halt_is, fresh_is, type_is, word_is, sign_is, length_is, token_is, wide_is}
-use Rattle.sdf_header.proofs.Faults.{continues, dead_end, goes-append, spelling-append, Halted, halted, sits_all, nothing_sits, front_continues}
+use Rattle.sdf_header.proofs.Sits.{Before, InLine, Sits, sits_on, either, wanted_is, or_halt_is, fresh_is, type_is, word_is, sign_is, length_is, token_is}
+use Rattle.sdf_header.proofs.Faults.{continues, dead_end, spelling-append, halted, sits_all, nothing_sits, front_continues}
 
 -- ---- the places that a state keeps
 
@@ -127,9 +125,12 @@ alone x = x ∷ []
 -- and one behind it
 kept_on : (ts : List Token) (t : Token) (p : ℕ) (x y : Option Lexeme) → t.lexeme ≡ y → Kept ts p x [] → Kept (ts ++ t ∷ []) p x (y ∷ [])
 kept_on ts t p x y e k = record {
-  before = k.before; token = k.token; after = k.after ++ t ∷ [];
+  before = k.before;
+  token = k.token;
+  after = k.after ++ t ∷ [];
   is = ap (λ a. a ++ t ∷ []) k.is ∙ append_assoc k.before (k.token ∷ k.after) (t ∷ []);
-  stands = k.stands; lexeme = k.lexeme;
+  stands = k.stands;
+  lexeme = k.lexeme;
   spelled = spelling-append k.after (t ∷ []) ∙ ap (λ a. a ++ t.lexeme ∷ []) k.spelled ∙ ap alone e;
 }
 
@@ -400,22 +401,28 @@ NoInt s = TakesUnsigned s → (r : ℕ) × (step s int_token ≡ halt faults.Syn
 syntax : (all : List Token) (s : State) (p : Place all s) (k : FaultKind) (q : ℕ) → step s p.token ≡ halt k q → ((w : List ℕ) → p.token.lexeme ≡ word w → (r : ℕ) × (step s lone_unsigned ≡ halt faults.Syntax r)) → NoInt s → ◌≡◌ {A = Result State Halt} (halt faults.Syntax p.token.place) (halt k q) → Found all k q
 syntax all s p k q e no_unsigned no_int same =
     moved all faults.Syntax k p.token.place q same (record {
-      before = p.before; token = p.token; after = p.after; is = p.is; stands = refl;
+      before = p.before;
+      token = p.token;
+      after = p.after;
+      is = p.is;
+      stands = refl;
       decides = (stops all s p faults.Syntax p.token.place (e ∙ sym same) (λ x. x), no_word_here, not_behind);
     })
   where
     b : Spelling
     b = spelling p.before
+
     no_word_here : IsTypeWord b p.token.lexeme → ⊥
     no_word_here t =
         let r = no_unsigned t.0 t.1 in
         dead_end p.before lone_unsigned s faults.Syntax r.0 p.run r.1 (λ x. x)
-            (front_continues (b ++ word (codes "unsigned") ∷ []) (word (codes "int") ∷ []) (subst Continues (sym (append_assoc b (word (codes "unsigned") ∷ []) (word (codes "int") ∷ []))) t.2))
+        (front_continues (b ++ word (codes "unsigned") ∷ []) (word (codes "int") ∷ []) (subst Continues (sym (append_assoc b (word (codes "unsigned") ∷ []) (word (codes "int") ∷ []))) t.2))
+
     not_behind : BehindUnsigned b → ⊥
     not_behind u =
         let r = no_int (p.after_unsigned u.0 u.1) in
         dead_end p.before int_token s faults.Syntax r.0 p.run r.1 (λ x. x)
-            (subst (λ y. Continues (y ++ word (codes "int") ∷ [])) (sym u.1) (subst Continues (sym (append_assoc u.0 (word (codes "unsigned") ∷ []) (word (codes "int") ∷ []))) u.2))
+        (subst (λ y. Continues (y ++ word (codes "int") ∷ [])) (sym u.1) (subst Continues (sym (append_assoc u.0 (word (codes "unsigned") ∷ []) (word (codes "int") ∷ []))) u.2))
 
 takes_int : (all : List Token) (s s1 : State) (p : Place all s) → step s int_token ≡ Ok s1 → Continues (spelling p.before ++ word (codes "int") ∷ [])
 takes_int all s s1 p e = continues s1 _ (sits_on s s1 (spelling p.before) (word (codes "int")) 0 e p.sits)
@@ -423,7 +430,7 @@ takes_int all s s1 p e = continues s1 _ (sits_on s s1 (spelling p.before) (word 
 takes_type : (all : List Token) (s s1 s2 : State) (p : Place all s) → step s lone_unsigned ≡ Ok s1 → step s1 int_token ≡ Ok s2 → TypeWanted (spelling p.before)
 takes_type all s s1 s2 p e f =
     subst Continues (append_assoc (spelling p.before) (word (codes "unsigned") ∷ []) (word (codes "int") ∷ []))
-        (continues s2 _ (sits_on s1 s2 (spelling p.before ++ word (codes "unsigned") ∷ []) (word (codes "int")) 0 f (sits_on s s1 (spelling p.before) (word (codes "unsigned")) 0 e p.sits)))
+    (continues s2 _ (sits_on s1 s2 (spelling p.before ++ word (codes "unsigned") ∷ []) (word (codes "int")) 0 f (sits_on s s1 (spelling p.before) (word (codes "unsigned")) 0 e p.sits)))
 
 wanted_not : {A : Type 0} (p : ℕ) (o : Option A) (f : A → Result State Halt) (k : FaultKind) (q : ℕ) → wanted p o f ≡ halt k q → ((o ≡ None) × (◌≡◌ {A = Result State Halt} (halt faults.Syntax p) (halt k q))) ⊎ ((a : A) × (o ≡ Some a) × (f a ≡ halt k q))
 wanted_not p None f k q e = inl (refl, e)
@@ -452,7 +459,11 @@ behind h b part p = record { are = p.are; fit = p.fit; spelled = sym (append-nil
 no_type : (all : List Token) (s s1 s2 : State) (p : Place all s) (k : FaultKind) (q : ℕ) (w : List ℕ) → step s p.token ≡ halt k q → step s lone_unsigned ≡ Ok s1 → step s1 int_token ≡ Ok s2 → (TakesUnsigned s → ⊥) → p.token.lexeme ≡ word w → ◌≡◌ {A = Result State Halt} (halt faults.UnknownType p.token.place) (halt k q) → Found all k q
 no_type all s s1 s2 p k q w e one two not_behind x same =
     moved all faults.UnknownType k p.token.place q same (record {
-      before = p.before; token = p.token; after = p.after; is = p.is; stands = refl;
+      before = p.before;
+      token = p.token;
+      after = p.after;
+      is = p.is;
+      stands = refl;
       decides = inl (stops all s p faults.UnknownType p.token.place (e ∙ sym same) (λ x. x), (w, x, takes_type all s s1 s2 p one two), λ u. not_behind (p.after_unsigned u.0 u.1));
     })
 
@@ -479,7 +490,9 @@ no_unsigned all s s1 typed p place k q kept e int at =
           let last : spelling p.before ≡ spelling kept.before ++ word (codes "unsigned") ∷ [] = front ∙ ap (λ y. spelling kept.before ++ y ∷ []) kept.lexeme in
           let wanted : TypeWanted (spelling kept.before) = subst Continues (append_assoc (spelling kept.before) (word (codes "unsigned") ∷ []) (word (codes "int") ∷ [])) (subst (λ y. Continues (y ++ word (codes "int") ∷ [])) last (takes_int all s s1 p int)) in
           moved all faults.UnknownType k place q none.1 (record {
-            before = kept.before; token = kept.token; after = kept.after ++ p.token ∷ p.after;
+            before = kept.before;
+            token = kept.token;
+            after = kept.after ++ p.token ∷ p.after;
             is = p.is ∙ ap (λ y. y ++ p.token ∷ p.after) kept.is ∙ append_assoc kept.before (kept.token ∷ kept.after) (p.token ∷ p.after);
             stands = kept.stands;
             decides = inr (kept.lexeme, wanted, p.token.lexeme, spelling p.after, spelling-append kept.after (p.token ∷ p.after) ∙ ap (λ y. y ++ p.token.lexeme ∷ spelling p.after) kept.spelled, stop);
@@ -498,9 +511,13 @@ name_twice all s h p part b k q named lead e no_unsigned no_int at =
           elim (either (is_some (h.given w.0)) (halt faults.NameTwice p.token.place) (Ok (named w.0)) (halt k q) w.2) [
             | inr f ↦ ok_halt (named w.0) k q f.1
             | inl t ↦ moved all faults.NameTwice k p.token.place q t.1 (record {
-                before = p.before; token = p.token; after = p.after; is = p.is; stands = refl;
-                decides = (w.0, word_is p.token.lexeme w.0 w.1, inl (record { statements = b.statements; part = part []; lead = lead; behind = behind h (spelling p.before) part b; given = ap (λ (x : Header). is_some (x.given w.0)) b.say ∙ t.0 }));
-              })
+              before = p.before;
+              token = p.token;
+              after = p.after;
+              is = p.is;
+              stands = refl;
+              decides = (w.0, word_is p.token.lexeme w.0 w.1, inl (record { statements = b.statements; part = part []; lead = lead; behind = behind h (spelling p.before) part b; given = ap (λ (x : Header). is_some (x.given w.0)) b.say ∙ t.0 }));
+            })
           ]
     ]
 
@@ -510,10 +527,15 @@ column : (h : Header) (row : Row) (kind : Kind) (b : Spelling) (l : InLine h row
 column h row kind b l =
     let s = l.struct in
     record {
-      statements = s.before.statements; lines = s.lines; earlier = l.earlier;
+      statements = s.before.statements;
+      lines = s.lines;
+      earlier = l.earlier;
       behind = behind h b _ s.before;
       first = ap (λ (x : Header). is_some x.table) s.before.say ∙ s.none;
-      is = l.is; lines_are = s.are; lines_fit = s.fit; items_are = l.are;
+      is = l.is;
+      lines_are = s.are;
+      lines_fit = s.fit;
+      items_are = l.are;
       items_fit = subst (λ r. ItemsFit l.type.kind r l.earlier) (sym s.say) l.fit;
       row_is = ap (λ r. and_items l.type.kind r l.earlier) s.say ∙ l.say;
     }
@@ -526,13 +548,22 @@ too_wide all s h row kind name place more p k q n item wide values same =
     let l = item.line in
     let behind_is : spelling (kept.after ++ p.token ∷ p.after) ≡ more ++ p.token.lexeme ∷ spelling p.after = spelling-append kept.after (p.token ∷ p.after) ∙ ap (λ y. y ++ p.token.lexeme ∷ spelling p.after) kept.spelled in
     moved all faults.TooWide k place q same (record {
-      before = kept.before; token = kept.token; after = kept.after ++ p.token ∷ p.after;
+      before = kept.before;
+      token = kept.token;
+      after = kept.after ++ p.token ∷ p.after;
       is = p.is ∙ ap (λ y. y ++ p.token ∷ p.after) kept.is ∙ append_assoc kept.before (kept.token ∷ kept.after) (p.token ∷ p.after);
       stands = kept.stands;
-      decides = (name, kept.lexeme, record {
-        type = l.type; row = row; column = column h row kind (spelling kept.before) l; new = item.new;
-        wide = inr (n, subst (λ y. HasValues y n) (sym behind_is) values, ap (λ x. nat_lt max_row_bytes (row.width + bytes_of x * n)) l.kind_is ∙ wide);
-      });
+      decides = (
+        name,
+        kept.lexeme,
+        record {
+          type = l.type;
+          row = row;
+          column = column h row kind (spelling kept.before) l;
+          new = item.new;
+          wide = inr (n, subst (λ y. HasValues y n) (sym behind_is) values, ap (λ x. nat_lt max_row_bytes (row.width + bytes_of x * n)) l.kind_is ∙ wide);
+        },
+      );
     })
 
 on_item_end_halts : (all : List Token) (s : State) (h : Header) (row : Row) (kind : Kind) (p : Place all s) (k : FaultKind) (q : ℕ) → step s p.token ≡ halt k q → ((r : ℕ) × (step s lone_unsigned ≡ halt faults.Syntax r)) → NoInt s → on_item_end h row kind p.token ≡ halt k q → Found all k q
@@ -576,9 +607,13 @@ why all (Start h) p k q e =
                             elim (either (is_some h.table) (halt faults.SecondStruct t.place) (Ok (Wants 123 (Fields h no_fields))) (halt k q) a.1) [
                               | inr b ↦ ok_halt (Wants 123 (Fields h no_fields)) k q b.1
                               | inl b ↦ moved all faults.SecondStruct k t.place q b.1 (record {
-                                  before = p.before; token = p.token; after = p.after; is = p.is; stands = refl;
-                                  decides = (word_is t.lexeme w.0 w.1 ∙ ap (λ n. word n) ((bytes_eq-Decides w.0 (codes "struct")).0 a.0), p.sits.statements, behind h (spelling p.before) _ p.sits, ap (λ (x : Header). is_some x.table) p.sits.say ∙ b.0);
-                                })
+                                before = p.before;
+                                token = p.token;
+                                after = p.after;
+                                is = p.is;
+                                stands = refl;
+                                decides = (word_is t.lexeme w.0 w.1 ∙ ap (λ n. word n) ((bytes_eq-Decides w.0 (codes "struct")).0 a.0), p.sits.statements, behind h (spelling p.before) _ p.sits, ap (λ (x : Header). is_some x.table) p.sits.say ∙ b.0);
+                              })
                             ]
                       ]
                 ]
@@ -643,15 +678,23 @@ why all (AtItem h row kind) p k q e =
       | inr w ↦
           elim (either (has_field w.0 row.fields) (halt faults.NameTwice t.place) (cond (length row.fields == max_columns) (halt faults.TooWide t.place) (Ok (ItemName h row kind w.0 t.place))) (halt k q) w.2) [
             | inl a ↦ moved all faults.NameTwice k t.place q a.1 (record {
-                before = p.before; token = p.token; after = p.after; is = p.is; stands = refl;
-                decides = (w.0, word_is t.lexeme w.0 w.1, inr (p.sits.type, row, column h row kind (spelling p.before) p.sits, a.0));
-              })
+              before = p.before;
+              token = p.token;
+              after = p.after;
+              is = p.is;
+              stands = refl;
+              decides = (w.0, word_is t.lexeme w.0 w.1, inr (p.sits.type, row, column h row kind (spelling p.before) p.sits, a.0));
+            })
             | inr f ↦
                 elim (either (length row.fields == max_columns) (halt faults.TooWide t.place) (Ok (ItemName h row kind w.0 t.place)) (halt k q) f.1) [
                   | inl a ↦ moved all faults.TooWide k t.place q a.1 (record {
-                      before = p.before; token = p.token; after = p.after; is = p.is; stands = refl;
-                      decides = (w.0, word_is t.lexeme w.0 w.1, record { type = p.sits.type; row = row; column = column h row kind (spelling p.before) p.sits; new = f.0; wide = inl a.0 });
-                    })
+                    before = p.before;
+                    token = p.token;
+                    after = p.after;
+                    is = p.is;
+                    stands = refl;
+                    decides = (w.0, word_is t.lexeme w.0 w.1, record { type = p.sits.type; row = row; column = column h row kind (spelling p.before) p.sits; new = f.0; wide = inl a.0 });
+                  })
                   | inr g ↦ ok_halt (ItemName h row kind w.0 t.place) k q g.1
                 ]
           ]

@@ -1,35 +1,27 @@
 -- Why a run halts.
-use Rattle.std.proofs.Common.{◌≡◌, ℕ, zero, suc, ◌+◌, ◌*◌, ◌-◌, ◌<◌, ◌≤◌, ◌^◌, Bool, true, false, cond, ◌&&◌, ◌⊎◌, inl, inr, List, [], ◌∷◌, ◌++◌, length, map, Option, Some, None, Result, Ok, Err, ℤ, pos, negsuc, refl, sym, ap, subst, ◌∙◌, append_assoc, arith}
-use Rattle.std.specs.Prelude.{option_and_then, if◌then◌else◌, is_some, codes, nat_lt, nat_le, ◌==◌}
-use Rattle.std.specs.Str.{bytes_eq}
-use Rattle.std.proofs.lemmas.Bool.{cases_Bool}
+use Rattle.std.proofs.Common.{◌≡◌, ℕ, ◌-◌, true, List, [], ◌∷◌, ◌++◌, length, map, Some, None, Result, Ok, Err, pos, refl, sym, ap, subst, ◌∙◌, append_assoc, arith}
+use Rattle.std.specs.Prelude.{codes}
 use Rattle.std.proofs.lemmas.List.{append-nil}
-use Rattle.std.proofs.lemmas.Slice.Eq.{bytes_eq-Decides}
-use Rattle.hot_model.specs.Limits.{max_columns, max_row_bytes}
 use Rattle.sdf_header.specs.declared.fault.Fault.{Fault}
 use Rattle.sdf_header.specs.declared.fault.FaultKind.{FaultKind}
-use Rattle.sdf_header.specs.declared.fault.FaultKind.TheVariants as faults
 use Rattle.sdf_header.specs.declared.kind.Kind.{Kind}
 use Rattle.sdf_header.specs.declared.kind.Kind.TheVariants as kinds
 use Rattle.sdf_header.specs.declared.kind.Whole.TheVariants as wholes
-use Rattle.sdf_header.specs.declared.document.Value.{Value}
 use Rattle.sdf_header.specs.declared.document.Value.TheVariants as values
-use Rattle.sdf_header.specs.Tokens.{Lexeme, Word, Number, Text, Sign, End}
-use Rattle.sdf_header.specs.TokenList.{Token, tokens, tokens_behind}
-use Rattle.sdf_header.specs.Types.{kind_named, unsigned_kind, bytes_of, is_char}
-use Rattle.sdf_header.specs.Parts.{is_the, size_of, unsigned_type, word_of}
-use Rattle.sdf_header.specs.Fields.{Row, has_field, length_of, no_fields}
-use Rattle.sdf_header.specs.Statements.{Header, with_param, with_struct, nothing_given, value_of, number_for, header_in}
-use Rattle.sdf_header.specs.Grammar.{Spelling, spelling, word, sign, count, TypeName, types, type_in, IsType, Item, FieldLine, Statement, Parameter, Constant, Label, Struct, IsSize, IsLength, AreItems, AreLines, IsStatement, AreStatements, spell_type, spell_size, spell_item, spell_earlier, spell_line, spell_lines, spell, spell_each, Spells, and_item, and_items, ItemsFit, and_lines, LinesFit, AllFit, said}
-use Rattle.sdf_header.specs.Faults.{Continues, Stops, StandsBehind, IsLead, NameGiven, ColumnStands, HasValues, Plain, Array, IsTooWide, IsNoType, Decides, FaultAt, IsHeader}
+use Rattle.sdf_header.specs.Tokens.{Lexeme, Number, Text, End}
+use Rattle.sdf_header.specs.TokenList.{Token, tokens}
+use Rattle.sdf_header.specs.Types.{is_char}
+use Rattle.sdf_header.specs.Fields.{Row}
+use Rattle.sdf_header.specs.Statements.{Header, nothing_given, header_in}
+use Rattle.sdf_header.specs.Grammar.{Spelling, spelling, word, sign, count, TypeName, IsType, Item, FieldLine, Statement, Parameter, Constant, Label, Struct, IsLength, AreItems, IsStatement, spell_type, spell_item, spell_earlier, spell_line, spell_lines, spell, spell_each}
+use Rattle.sdf_header.specs.Faults.{Continues, IsHeader}
 use Rattle.sdf_header.specs.Judgement.{IsOfSense}
-use Rattle.sdf_header.proofs.Machine.{Halt, halt, State, Done, Start, Wants, ParamName, ParamValue, Unsigned, Typed, Named, NumberFor, TextSize, TextValue, Fields, FieldUnsigned, Item as AtItem, ItemName, Length, ItemEnd, StructSize, wanted, has, ends, word_in, widened, or_halt, given, closed, on_type, on_statement, on_name, on_item, on_item_end, text_in, step, and_then, goes}
+use Rattle.sdf_header.proofs.Machine.{Halt, halt, State, Done, Start, Wants, ParamName, ParamValue, Unsigned, Typed, Named, NumberFor, TextSize, TextValue, Fields, FieldUnsigned, Item as AtItem, ItemName, Length, ItemEnd, StructSize, step, and_then, goes}
 use Rattle.sdf_header.proofs.Simulation.{onward, done, header_goes}
 use Rattle.sdf_header.proofs.Leads.{EndsOrBySense, no_bad_spelling, ends_well}
-use Rattle.sdf_header.proofs.Sits.{spell_each-one, spell_lines-one, spell_earlier-one, are_statements-one, are_lines-one, Before, Whole, InType, InStruct, InLine, NewItem, ItemRead, InText, InTextBehind, Sits, sits_on}
+use Rattle.sdf_header.proofs.Sits.{spell_each-one, spell_lines-one, are_statements-one, are_lines-one, Before, Whole, InStruct, InLine, Sits, sits_on}
 
 -- ---- at each state the tokens so far can go on to statements
-
 
 by_statement : (h : Header) (b : Spelling) (part : Spelling → Spelling) → Before h b part → (s : Statement) → IsStatement s → (more : Spelling) → part more ≡ spell s (Some End ∷ []) → Continues b
 by_statement h b part p s is more e = record {
@@ -50,7 +42,7 @@ no_size_end = sign 91 ∷ sign 93 ∷ sign 59 ∷ Some End ∷ []
 by_line : (h : Header) (row : Row) (b : Spelling) (part : Spelling → Spelling) → InStruct h row b part → (l : FieldLine) → IsType l.type × AreItems l.earlier × IsLength l.last.length → (more : Spelling) → part more ≡ spell_line l (sign 125 ∷ no_size_end) → Continues b
 by_line h row b part s l is more e =
     by_statement h b _ s.before (Struct (s.lines ++ l ∷ []) None) (are_lines-one s.lines l s.are is, tt) more
-        (ap (λ x. word (codes "struct") ∷ sign 123 ∷ spell_lines s.lines x) e ∙ ap (λ x. word (codes "struct") ∷ sign 123 ∷ x) (sym (spell_lines-one s.lines l (sign 125 ∷ no_size_end))))
+    (ap (λ x. word (codes "struct") ∷ sign 123 ∷ spell_lines s.lines x) e ∙ ap (λ x. word (codes "struct") ∷ sign 123 ∷ x) (sym (spell_lines-one s.lines l (sign 125 ∷ no_size_end))))
 
 by_item : (h : Header) (row : Row) (kind : Kind) (b : Spelling) (part : Spelling → Spelling) → InLine h row kind b part → (i : Item) → IsLength i.length → (more : Spelling) → part more ≡ spell_item i (sign 59 ∷ sign 125 ∷ no_size_end) → Continues b
 by_item h row kind b part l i is more e =

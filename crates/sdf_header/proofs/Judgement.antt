@@ -1,7 +1,6 @@
 -- The verdict of an input, by its tokens and statements.
-use Rattle.std.proofs.Common.{◌≡◌, ◌↔◌, ℕ, ◌-◌, ◌⊎◌, inl, inr, Bool, true, false, cond, List, take, length, Option, Some, None, Result, Ok, Err, ℤ, pos, negsuc, refl, sym, ap, subst, ◌∙◌}
+use Rattle.std.proofs.Common.{◌≡◌, ℕ, ◌-◌, ◌⊎◌, inl, inr, Bool, true, false, cond, List, take, length, Option, Some, None, Result, Ok, Err, pos, negsuc, refl, sym, ap, subst, ◌∙◌}
 use Rattle.std.specs.Prelude.{nat_le, nat_lt, ◌&&◌, ◌==◌, if◌then◌else◌, codes}
-use Rattle.std.proofs.lemmas.Bool.{cases_Bool}
 use Rattle.sdf_header.specs.declared.header_fault.HeaderFault.{HeaderFault}
 use Rattle.sdf_header.specs.declared.header_fault.HeaderFault.TheVariants as faults
 use Rattle.sdf_header.specs.declared.header_fault.ColName.{ColName}
@@ -12,7 +11,6 @@ use Rattle.sdf_header.specs.declared.fault.Fault.{Fault}
 use Rattle.sdf_header.specs.declared.fault.FaultKind.{FaultKind}
 use Rattle.sdf_header.specs.declared.fault.FaultKind.TheVariants as kinds
 use Rattle.sdf_header.specs.declared.kind.Kind.{Kind}
-use Rattle.sdf_header.specs.declared.kind.Kind.TheVariants as types
 use Rattle.sdf_header.specs.declared.document.Value.{Value}
 use Rattle.sdf_header.specs.declared.document.Value.TheVariants as values
 use Rattle.sdf_header.specs.declared.layout.Col.{Col}
@@ -21,14 +19,13 @@ use Rattle.sdf_header.specs.Layouts.{LayoutValue}
 use Rattle.sdf_header.specs.Parts.{Names}
 use Rattle.sdf_header.specs.Fields.{Field}
 use Rattle.sdf_header.specs.Statements.{Header, header_in}
-use Rattle.sdf_header.specs.Faults.{FaultAt, IsHeader}
+use Rattle.sdf_header.specs.Faults.{FaultAt}
 use Rattle.sdf_header.specs.Extent.{Extent, Faulty, Ends, Open, extent, extent_from, agrees, magic, ending}
 use Rattle.sdf_header.specs.Verdict.{◌>>=◌, or_fault, column, whole, axes_of, optional_of, order_of, whole_param, small_param, cube_of, mass_of, count_of, layout_of, placed, at_place, judged, unended, verdict_from, verdict}
 use Rattle.sdf_header.specs.Judgement.{SaysOf, TokenFault, IsOfSense, SpellingFault, FaultOf, LayoutOfStatements, FaultByReason}
 use Rattle.sdf_header.proofs.Faults.{is_header, header_is}
-use Rattle.sdf_header.specs.Statements.{nothing_given}
 use Rattle.sdf_header.specs.TokenList.{tokens}
-use Rattle.sdf_header.proofs.Machine.{Halt, halt, State, Start, goes}
+use Rattle.sdf_header.proofs.Machine.{Halt, halt, State}
 use Rattle.sdf_header.proofs.Simulation.{onward, done, header_goes}
 use Rattle.sdf_header.proofs.Converse.{sense_halts}
 use Rattle.sdf_header.proofs.Decided.{fault_at}
@@ -71,11 +68,11 @@ axes_later : (fields : List Field) → FailsLater (axes_of fields)
 unfolding axes_of
 axes_later fields =
     later (or_fault (faults.Missing columns.X) (column (codes "x") fields)) _ (or_fault_later _ _ tt) (λ x.
-        later (or_fault (faults.Missing columns.Y) (column (codes "y") fields)) _ (or_fault_later _ _ tt) (λ y.
-            later (or_fault (faults.Missing columns.Z) (column (codes "z") fields)) _ (or_fault_later _ _ tt) (λ z.
-                later (or_fault (faults.NotWhole columns.X) (whole x.0 x.1)) _ (or_fault_later _ _ tt) (λ a.
-                    later (or_fault (faults.NotWhole columns.Y) (whole y.0 y.1)) _ (or_fault_later _ _ tt) (λ b.
-                        later (or_fault (faults.NotWhole columns.Z) (whole z.0 z.1)) _ (or_fault_later _ _ tt) (λ c. tt))))))
+    later (or_fault (faults.Missing columns.Y) (column (codes "y") fields)) _ (or_fault_later _ _ tt) (λ y.
+    later (or_fault (faults.Missing columns.Z) (column (codes "z") fields)) _ (or_fault_later _ _ tt) (λ z.
+    later (or_fault (faults.NotWhole columns.X) (whole x.0 x.1)) _ (or_fault_later _ _ tt) (λ a.
+    later (or_fault (faults.NotWhole columns.Y) (whole y.0 y.1)) _ (or_fault_later _ _ tt) (λ b.
+    later (or_fault (faults.NotWhole columns.Z) (whole z.0 z.1)) _ (or_fault_later _ _ tt) (λ c. tt))))))
 
 optional_later : (name : ColName) (o : Option (Kind × ℕ)) → FailsLater (optional_of name o)
 unfolding optional_of
@@ -106,9 +103,9 @@ cube_later : (given : Names) → FailsLater (cube_of given)
 unfolding cube_of
 cube_later given =
     later _ _ (small_later names.CubeBits _ _ (given (codes "cube_bits"))) (λ bits.
-        later _ _ (param_later names.CubeX0 (given (codes "cube_x0"))) (λ x.
-            later _ _ (param_later names.CubeY0 (given (codes "cube_y0"))) (λ y.
-                later _ _ (param_later names.CubeZ0 (given (codes "cube_z0"))) (λ z. tt))))
+    later _ _ (param_later names.CubeX0 (given (codes "cube_x0"))) (λ x.
+    later _ _ (param_later names.CubeY0 (given (codes "cube_y0"))) (λ y.
+    later _ _ (param_later names.CubeZ0 (given (codes "cube_z0"))) (λ z. tt))))
 
 mass_later : (c : Option Col) (v : Option Value) → FailsLater (mass_of c v)
 unfolding mass_of
@@ -124,14 +121,14 @@ layout_later : (len : ℕ) (h : Header) → FailsLater (layout_of len h)
 unfolding layout_of
 layout_later len h =
     later (or_fault faults.NoStruct h.table) _ (or_fault_later _ h.table tt) (λ t.
-        later _ _ (axes_later t.row.fields) (λ axes.
-            later _ _ (optional_later columns.Mass (column (codes "mass") t.row.fields)) (λ mass.
-                later _ _ (optional_later columns.Ident (column (codes "ident") t.row.fields)) (λ ident.
-                    later _ _ (optional_later columns.Work (column (codes "work") t.row.fields)) (λ work.
-                        later _ _ (order_later (h.given (codes "byteorder"))) (λ order.
-                            later _ _ (cube_later h.given) (λ cube.
-                                later _ _ (mass_later mass (h.given (codes "mass"))) (λ m.
-                                    later _ _ (count_later t.size) (λ n. tt)))))))))
+    later _ _ (axes_later t.row.fields) (λ axes.
+    later _ _ (optional_later columns.Mass (column (codes "mass") t.row.fields)) (λ mass.
+    later _ _ (optional_later columns.Ident (column (codes "ident") t.row.fields)) (λ ident.
+    later _ _ (optional_later columns.Work (column (codes "work") t.row.fields)) (λ work.
+    later _ _ (order_later (h.given (codes "byteorder"))) (λ order.
+    later _ _ (cube_later h.given) (λ cube.
+    later _ _ (mass_later mass (h.given (codes "mass"))) (λ m.
+    later _ _ (count_later t.size) (λ n. tt)))))))))
 
 -- ---- the verdict
 

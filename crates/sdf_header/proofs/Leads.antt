@@ -1,6 +1,6 @@
 -- The tokens of statements lead on to what is behind them.
-use Rattle.std.proofs.Common.{◌≡◌, ℕ, zero, suc, ◌+◌, ◌*◌, ◌<◌, ◌≤◌, ◌^◌, Bool, true, false, cond, ◌&&◌, ◌⊎◌, inl, inr, List, [], ◌∷◌, ◌++◌, length, map, Option, Some, None, Result, Ok, Err, pos, refl, sym, ap, subst, ◌∙◌, append_assoc, arith}
-use Rattle.std.specs.Prelude.{option_and_then, if◌then◌else◌, is_some, codes, nat_lt, nat_le, ◌==◌}
+use Rattle.std.proofs.Common.{◌≡◌, ℕ, ◌+◌, ◌*◌, ◌^◌, Bool, true, false, ◌⊎◌, inl, inr, List, [], ◌∷◌, ◌++◌, length, Option, Some, None, Result, Ok, Err, pos, refl, sym, ap, subst, ◌∙◌, append_assoc}
+use Rattle.std.specs.Prelude.{option_and_then, if◌then◌else◌, is_some, codes, nat_lt, ◌==◌}
 use Rattle.std.specs.Str.{bytes_eq}
 use Rattle.std.proofs.lemmas.Bool.{cases_Bool, le-leb, lt-ltb}
 use Rattle.hot_model.specs.Limits.{max_columns, max_row_bytes}
@@ -10,7 +10,7 @@ use Rattle.sdf_header.specs.declared.kind.Kind.{Kind}
 use Rattle.sdf_header.specs.declared.document.Value.{Value}
 use Rattle.sdf_header.specs.declared.document.Value.TheVariants as values
 use Rattle.sdf_header.specs.Limits.{max_array_length}
-use Rattle.sdf_header.specs.Tokens.{Lexeme, Word, Number, Text, Sign, End}
+use Rattle.sdf_header.specs.Tokens.{Lexeme, Number, Text, End}
 use Rattle.sdf_header.specs.TokenList.{Token}
 use Rattle.sdf_header.specs.Types.{kind_named, unsigned_kind, bytes_of, is_char}
 use Rattle.std.proofs.lemmas.Slice.Eq.{bytes_eq-Decides}
@@ -19,7 +19,7 @@ use Rattle.sdf_header.specs.Fields.{Row, has_field, length_of, no_fields}
 use Rattle.sdf_header.specs.Statements.{Header, with_param, with_struct, value_of, number_for}
 use Rattle.sdf_header.specs.Judgement.{IsOfSense}
 use Rattle.sdf_header.specs.Grammar.{Spelling, spelling, word, sign, count, TypeName, types, type_in, IsType, Item, FieldLine, Statement, Parameter, Constant, Label, Struct, IsSize, IsLength, AreItems, AreLines, IsStatement, AreStatements, spell_type, spell_size, spell_length, spell_item, spell_earlier, spell_line, spell_lines, spell, spell_each, values_of, and_item, ItemFits, and_items, ItemsFit, and_line, and_lines, LinesFit, and_statement, Fits, and_statements, AllFit}
-use Rattle.sdf_header.proofs.Machine.{Halt, halt, State, Done, Start, Wants, ParamName, ParamValue, Unsigned, Typed, Named, NumberFor, TextSize, TextValue, Fields, FieldUnsigned, Item as AtItem, ItemName, Length, ItemEnd, StructSize, wanted, has, widened, or_halt, given, closed, on_type, on_item_end, step, and_then, goes}
+use Rattle.sdf_header.proofs.Machine.{Halt, halt, State, Done, Start, Wants, ParamName, ParamValue, Unsigned, Typed, Named, NumberFor, TextSize, TextValue, Fields, FieldUnsigned, Item as AtItem, ItemName, Length, ItemEnd, StructSize, wanted, has, or_halt, given, closed, on_type, on_item_end, step, and_then, goes}
 
 abbrev pub HaltsBySense : Result State Halt → Type 0
 HaltsBySense (Ok s) = ⊥
@@ -35,9 +35,11 @@ pub record GoesOn (s : State) (ts : List Token) (later : State) (rest : Spelling
 
 joined : (s s1 s2 : State) (ts : List Token) (l1 l2 : Spelling) (g : GoesOn s ts s1 l1) → GoesOn s1 g.tokens s2 l2 → GoesOn s ts s2 l2
 joined s s1 s2 ts l1 l2 g next = record {
-  used = g.used ++ next.used; tokens = next.tokens;
+  used = g.used ++ next.used;
+  tokens = next.tokens;
   split = g.split ∙ ap (λ x. g.used ++ x) next.split ∙ sym (append_assoc g.used next.used next.tokens);
-  are = next.are; same = g.same ∙ next.same;
+  are = next.are;
+  same = g.same ∙ next.same;
 }
 
 -- it goes on, or it halts since this does not hold
@@ -146,8 +148,8 @@ lead_size : (s : State) (sized : Option ℕ → State) (size : Option ℕ) (ts :
 lead_size s sized None ts rest h is e = one s (sized None) ts (sign 93) rest e (λ place. h (record { lexeme = sign 93; place = place }))
 lead_size s sized (Some n) ts rest h is e =
     on s (Wants 93 (sized (Some n))) (sized (Some n)) ts (sign 93 ∷ rest) rest
-        (one s (Wants 93 (sized (Some n))) ts (count n) (sign 93 ∷ rest) e (λ place. h (record { lexeme = count n; place = place }) ∙ rw (lt-ltb n (2 ^ 64) is) refl))
-        (λ ts e. one (Wants 93 (sized (Some n))) (sized (Some n)) ts (sign 93) rest e (λ place. refl))
+    (one s (Wants 93 (sized (Some n))) ts (count n) (sign 93 ∷ rest) e (λ place. h (record { lexeme = count n; place = place }) ∙ rw (lt-ltb n (2 ^ 64) is) refl))
+    (λ ts e. one (Wants 93 (sized (Some n))) (sized (Some n)) ts (sign 93) rest e (λ place. refl))
 
 -- ---- statements that give a name
 
@@ -157,11 +159,11 @@ lead_given h name value ts rest e = one (given h name value) _ ts (sign 59) rest
 lead_parameter : (h : Header) (name : List ℕ) (token : Lexeme) (value : Value) (ts : List Token) (rest : Spelling) → value_of token ≡ Some value → spelling ts ≡ spell (Parameter name token value) rest → Leads (Start h) ts (Start (with_param h (record { name = name; value = value }))) rest (is_some (h.given name) ≡ false)
 lead_parameter h name token value ts rest is e =
     on_lead (Start h) (ParamName h) _ ts (word name ∷ sign 61 ∷ Some token ∷ sign 59 ∷ rest) rest _ (one (Start h) (ParamName h) ts (word (codes "parameter")) _ e (λ place. refl)) (λ ts e.
-        lead_then (ParamName h) (Wants 61 (ParamValue h name)) _ ts (sign 61 ∷ Some token ∷ sign 59 ∷ rest) rest _
-            (one_or (is_some (h.given name)) (ParamName h) (Wants 61 (ParamValue h name)) ts (word name) _ faults.NameTwice tt e (λ b place. (place, rw b refl)) (λ b place. rw b refl)) (λ ts e.
-            on (Wants 61 (ParamValue h name)) (ParamValue h name) _ ts (Some token ∷ sign 59 ∷ rest) rest (one (Wants 61 (ParamValue h name)) (ParamValue h name) ts (sign 61) _ e (λ place. refl)) (λ ts e.
-                on (ParamValue h name) (given h name value) _ ts (sign 59 ∷ rest) rest (one (ParamValue h name) (given h name value) ts (Some token) _ e (λ place. rw is refl)) (λ ts e.
-                    lead_given h name value ts rest e))))
+    lead_then (ParamName h) (Wants 61 (ParamValue h name)) _ ts (sign 61 ∷ Some token ∷ sign 59 ∷ rest) rest _
+    (one_or (is_some (h.given name)) (ParamName h) (Wants 61 (ParamValue h name)) ts (word name) _ faults.NameTwice tt e (λ b place. (place, rw b refl)) (λ b place. rw b refl)) (λ ts e.
+    on (Wants 61 (ParamValue h name)) (ParamValue h name) _ ts (Some token ∷ sign 59 ∷ rest) rest (one (Wants 61 (ParamValue h name)) (ParamValue h name) ts (sign 61) _ e (λ place. refl)) (λ ts e.
+    on (ParamValue h name) (given h name value) _ ts (sign 59 ∷ rest) rest (one (ParamValue h name) (given h name value) ts (Some token) _ e (λ place. rw is refl)) (λ ts e.
+    lead_given h name value ts rest e))))
 
 start_type : (h : Header) (w : List ℕ) → bytes_eq w (codes "parameter") ≡ false → bytes_eq w (codes "struct") ≡ false → (place : ℕ) → step (Start h) (record { lexeme = word w; place = place }) ≡ on_type place (Typed h) (Unsigned h place) w
 start_type h w p s place = rw (p, s) refl
@@ -169,23 +171,23 @@ start_type h w p s place = rw (p, s) refl
 lead_named : (h : Header) (t : TypeName) (name : List ℕ) (ts : List Token) (rest : Spelling) → IsType t → spelling ts ≡ spell_type t (word name ∷ rest) → Leads (Start h) ts (Named h t.kind name) rest (is_some (h.given name) ≡ false)
 lead_named h t name ts rest is e =
     on_lead (Start h) (Typed h t.kind) _ ts (word name ∷ rest) rest _ (lead_type (Start h) (Typed h) (Unsigned h) t ts (word name ∷ rest) (start_type h) (λ place t. refl) is e) (λ ts e.
-        one_or (is_some (h.given name)) (Typed h t.kind) (Named h t.kind name) ts (word name) _ faults.NameTwice tt e (λ b place. (place, rw b refl)) (λ b place. rw b refl))
+    one_or (is_some (h.given name)) (Typed h t.kind) (Named h t.kind name) ts (word name) _ faults.NameTwice tt e (λ b place. (place, rw b refl)) (λ b place. rw b refl))
 
 lead_constant : (h : Header) (t : TypeName) (name : List ℕ) (token : Lexeme) (value : Value) (ts : List Token) (rest : Spelling) → IsType t → number_for t.kind token ≡ Some value → spelling ts ≡ spell (Constant t name token value) rest → Leads (Start h) ts (Start (with_param h (record { name = name; value = value }))) rest (is_some (h.given name) ≡ false)
 lead_constant h t name token value ts rest is number e =
     lead_then (Start h) (Named h t.kind name) _ ts (sign 61 ∷ Some token ∷ sign 59 ∷ rest) rest _ (lead_named h t name ts _ is e) (λ ts e.
-        on (Named h t.kind name) (NumberFor h t.kind name) _ ts (Some token ∷ sign 59 ∷ rest) rest (one (Named h t.kind name) (NumberFor h t.kind name) ts (sign 61) _ e (λ place. refl)) (λ ts e.
-            on (NumberFor h t.kind name) (given h name value) _ ts (sign 59 ∷ rest) rest (one (NumberFor h t.kind name) (given h name value) ts (Some token) _ e (λ place. rw number refl)) (λ ts e.
-                lead_given h name value ts rest e)))
+    on (Named h t.kind name) (NumberFor h t.kind name) _ ts (Some token ∷ sign 59 ∷ rest) rest (one (Named h t.kind name) (NumberFor h t.kind name) ts (sign 61) _ e (λ place. refl)) (λ ts e.
+    on (NumberFor h t.kind name) (given h name value) _ ts (sign 59 ∷ rest) rest (one (NumberFor h t.kind name) (given h name value) ts (Some token) _ e (λ place. rw number refl)) (λ ts e.
+    lead_given h name value ts rest e)))
 
 lead_label : (h : Header) (t : TypeName) (name : List ℕ) (size : Option ℕ) (ts : List Token) (rest : Spelling) → IsType t → is_char t.kind ≡ true → IsSize size → spelling ts ≡ spell (Label t name size) rest → Leads (Start h) ts (Start (with_param h (record { name = name; value = values.Other }))) rest (is_some (h.given name) ≡ false)
 lead_label h t name size ts rest is char sized e =
     lead_then (Start h) (Named h t.kind name) _ ts (sign 91 ∷ spell_size size (sign 93 ∷ sign 61 ∷ Some Text ∷ sign 59 ∷ rest)) rest _ (lead_named h t name ts _ is e) (λ ts e.
-        on (Named h t.kind name) (TextSize h name) _ ts (spell_size size (sign 93 ∷ sign 61 ∷ Some Text ∷ sign 59 ∷ rest)) rest (one (Named h t.kind name) (TextSize h name) ts (sign 91) _ e (λ place. rw char refl)) (λ ts e.
-            on (TextSize h name) (Wants 61 (TextValue h name)) _ ts (sign 61 ∷ Some Text ∷ sign 59 ∷ rest) rest (lead_size (TextSize h name) (λ o. Wants 61 (TextValue h name)) size ts (sign 61 ∷ Some Text ∷ sign 59 ∷ rest) (λ t. refl) sized e) (λ ts e.
-                on (Wants 61 (TextValue h name)) (TextValue h name) _ ts (Some Text ∷ sign 59 ∷ rest) rest (one (Wants 61 (TextValue h name)) (TextValue h name) ts (sign 61) _ e (λ place. refl)) (λ ts e.
-                    on (TextValue h name) (given h name values.Other) _ ts (sign 59 ∷ rest) rest (one (TextValue h name) (given h name values.Other) ts (Some Text) _ e (λ place. refl)) (λ ts e.
-                        lead_given h name values.Other ts rest e)))))
+    on (Named h t.kind name) (TextSize h name) _ ts (spell_size size (sign 93 ∷ sign 61 ∷ Some Text ∷ sign 59 ∷ rest)) rest (one (Named h t.kind name) (TextSize h name) ts (sign 91) _ e (λ place. rw char refl)) (λ ts e.
+    on (TextSize h name) (Wants 61 (TextValue h name)) _ ts (sign 61 ∷ Some Text ∷ sign 59 ∷ rest) rest (lead_size (TextSize h name) (λ o. Wants 61 (TextValue h name)) size ts (sign 61 ∷ Some Text ∷ sign 59 ∷ rest) (λ t. refl) sized e) (λ ts e.
+    on (Wants 61 (TextValue h name)) (TextValue h name) _ ts (Some Text ∷ sign 59 ∷ rest) rest (one (Wants 61 (TextValue h name)) (TextValue h name) ts (sign 61) _ e (λ place. refl)) (λ ts e.
+    on (TextValue h name) (given h name values.Other) _ ts (sign 59 ∷ rest) rest (one (TextValue h name) (given h name values.Other) ts (Some Text) _ e (λ place. refl)) (λ ts e.
+    lead_given h name values.Other ts rest e)))))
 
 -- ---- items
 
@@ -195,19 +197,19 @@ lead_width : (h : Header) (row : Row) (kind : Kind) (name : List ℕ) (len : Opt
     → Leads (ItemName h row kind name p) ts (next (and_item kind row (record { name = name; length = len }))) rest (nat_lt max_row_bytes (row.width + bytes_of kind * values_of len) ≡ false)
 lead_width h row kind name None p sep next ts rest isnt ends is e =
     one_or (nat_lt max_row_bytes (row.width + bytes_of kind * 1)) (ItemName h row kind name p) _ ts (sign sep) rest faults.TooWide tt e
-        (λ b place. (p, rw (isnt, b) refl))
-        (λ b place. rw (isnt, b) (ends _ place))
+    (λ b place. (p, rw (isnt, b) refl))
+    (λ b place. rw (isnt, b) (ends _ place))
 lead_width h row kind name (Some n) p sep next ts rest isnt ends is e =
     let wide = nat_lt max_row_bytes (row.width + bytes_of kind * n) in
     let new = and_item kind row (record { name = name; length = Some n }) in
     let long : length_of (Number (Some (pos n))) ≡ Some n = rw (le-leb 1 n is.0, le-leb n max_array_length is.1) refl in
     on_lead (ItemName h row kind name p) (Length h row kind name p) (next new) ts (count n ∷ sign 93 ∷ sign sep ∷ rest) rest (wide ≡ false) (one (ItemName h row kind name p) (Length h row kind name p) ts (sign 91) _ e (λ place. refl)) (λ ts e.
-        lead_then (Length h row kind name p) (Wants 93 (ItemEnd h new kind)) (next new) ts (sign 93 ∷ sign sep ∷ rest) rest (wide ≡ false)
-            (one_or wide (Length h row kind name p) (Wants 93 (ItemEnd h new kind)) ts (count n) _ faults.TooWide tt e
-                (λ b place. (p, rw (long, b) refl))
-                (λ b place. rw (long, b) refl)) (λ ts e.
-            on (Wants 93 (ItemEnd h new kind)) (ItemEnd h new kind) (next new) ts (sign sep ∷ rest) rest (one (Wants 93 (ItemEnd h new kind)) (ItemEnd h new kind) ts (sign 93) _ e (λ place. refl)) (λ ts e.
-                one (ItemEnd h new kind) (next new) ts (sign sep) rest e (λ place. ends new place))))
+    lead_then (Length h row kind name p) (Wants 93 (ItemEnd h new kind)) (next new) ts (sign 93 ∷ sign sep ∷ rest) rest (wide ≡ false)
+    (one_or wide (Length h row kind name p) (Wants 93 (ItemEnd h new kind)) ts (count n) _ faults.TooWide tt e
+    (λ b place. (p, rw (long, b) refl))
+    (λ b place. rw (long, b) refl)) (λ ts e.
+    on (Wants 93 (ItemEnd h new kind)) (ItemEnd h new kind) (next new) ts (sign sep ∷ rest) rest (one (Wants 93 (ItemEnd h new kind)) (ItemEnd h new kind) ts (sign 93) _ e (λ place. refl)) (λ ts e.
+    one (ItemEnd h new kind) (next new) ts (sign sep) rest e (λ place. ends new place))))
 
 weaker : (s later : State) (ts : List Token) (rest : Spelling) (p q : Type 0) → (q → p) → Leads s ts later rest p → Leads s ts later rest q
 weaker s later ts rest p q f (inl g) = inl g
@@ -225,8 +227,8 @@ lead_item h row kind i sep next ts rest isnt ends is e =
             | inr g ↦
                 (let first = one_at (AtItem h row kind) (ItemName h row kind i.name) ts (word i.name) (spell_length i.length (sign sep ∷ rest)) e (λ place. rw (f, g) refl) in
                 weaker _ _ ts rest _ _ (λ (fits : ItemFits kind row i). fits.narrow)
-                    (on_lead (AtItem h row kind) (ItemName h row kind i.name first.0) (next (and_item kind row i)) ts (spell_length i.length (sign sep ∷ rest)) rest _ first.1 (λ ts e.
-                        lead_width h row kind i.name i.length first.0 sep next ts rest isnt ends is e)))
+                (on_lead (AtItem h row kind) (ItemName h row kind i.name first.0) (next (and_item kind row i)) ts (spell_length i.length (sign sep ∷ rest)) rest _ first.1 (λ ts e.
+                lead_width h row kind i.name i.length first.0 sep next ts rest isnt ends is e)))
           ]
     ]
 
@@ -234,8 +236,8 @@ pub lead_earlier : (h : Header) (row : Row) (kind : Kind) (items : List Item) (t
 lead_earlier h row kind [] ts rest are e = inl (record { used = []; tokens = ts; split = refl; are = e; same = refl })
 lead_earlier h row kind (i ∷ items) ts rest are e =
     lead_on (AtItem h row kind) (AtItem h (and_item kind row i) kind) _ ts (spell_earlier items rest) rest (ItemFits kind row i) (ItemsFit kind (and_item kind row i) items) _ (λ fits. fits.0) (λ fits. fits.1)
-        (lead_item h row kind i 44 (λ row. AtItem h row kind) ts (spell_earlier items rest) refl (λ row place. refl) are.0 e)
-        (λ ts e. lead_earlier h (and_item kind row i) kind items ts rest are.1 e)
+    (lead_item h row kind i 44 (λ row. AtItem h row kind) ts (spell_earlier items rest) refl (λ row place. refl) are.0 e)
+    (λ ts e. lead_earlier h (and_item kind row i) kind items ts rest are.1 e)
 
 lead_line : (h : Header) (row : Row) (l : FieldLine) (ts : List Token) (rest : Spelling) → IsType l.type × AreItems l.earlier × IsLength l.last.length → spelling ts ≡ spell_line l rest
     → Leads (Fields h row) ts (Fields h (and_line row l)) rest (ItemsFit l.type.kind row l.earlier × ItemFits l.type.kind (and_items l.type.kind row l.earlier) l.last)
@@ -243,17 +245,17 @@ lead_line h row l ts rest are e =
     let kind = l.type.kind in
     let wider = and_items kind row l.earlier in
     on_lead (Fields h row) (AtItem h row kind) (Fields h (and_line row l)) ts (spell_earlier l.earlier (spell_item l.last (sign 59 ∷ rest))) rest _
-        (lead_type (Fields h row) (AtItem h row) (FieldUnsigned h row) l.type ts _ (λ w p s place. refl) (λ place t. refl) are.0 e) (λ ts e.
-        lead_on (AtItem h row kind) (AtItem h wider kind) (Fields h (and_line row l)) ts (spell_item l.last (sign 59 ∷ rest)) rest (ItemsFit kind row l.earlier) (ItemFits kind wider l.last) _ (λ fits. fits.0) (λ fits. fits.1)
-            (lead_earlier h row kind l.earlier ts _ are.1 e)
-            (λ ts e. lead_item h wider kind l.last 59 (λ row. Fields h row) ts rest refl (λ row place. refl) are.2 e))
+    (lead_type (Fields h row) (AtItem h row) (FieldUnsigned h row) l.type ts _ (λ w p s place. refl) (λ place t. refl) are.0 e) (λ ts e.
+    lead_on (AtItem h row kind) (AtItem h wider kind) (Fields h (and_line row l)) ts (spell_item l.last (sign 59 ∷ rest)) rest (ItemsFit kind row l.earlier) (ItemFits kind wider l.last) _ (λ fits. fits.0) (λ fits. fits.1)
+    (lead_earlier h row kind l.earlier ts _ are.1 e)
+    (λ ts e. lead_item h wider kind l.last 59 (λ row. Fields h row) ts rest refl (λ row place. refl) are.2 e))
 
 pub lead_lines : (h : Header) (row : Row) (lines : List FieldLine) (ts : List Token) (rest : Spelling) → AreLines lines → spelling ts ≡ spell_lines lines rest → Leads (Fields h row) ts (Fields h (and_lines row lines)) rest (LinesFit row lines)
 lead_lines h row [] ts rest are e = inl (record { used = []; tokens = ts; split = refl; are = e; same = refl })
 lead_lines h row (l ∷ lines) ts rest are e =
     lead_on (Fields h row) (Fields h (and_line row l)) _ ts (spell_lines lines rest) rest _ (LinesFit (and_line row l) lines) _ (λ fits. fits.0) (λ fits. fits.1)
-        (lead_line h row l ts (spell_lines lines rest) are.0 e)
-        (λ ts e. lead_lines h (and_line row l) lines ts rest are.1 e)
+    (lead_line h row l ts (spell_lines lines rest) are.0 e)
+    (λ ts e. lead_lines h (and_line row l) lines ts rest are.1 e)
 
 lead_struct : (h : Header) (lines : List FieldLine) (size : Option ℕ) (ts : List Token) (rest : Spelling) → AreLines lines → IsSize size → spelling ts ≡ spell (Struct lines size) rest
     → Leads (Start h) ts (Start (with_struct h (record { row = and_lines no_fields lines; size = size }))) rest ((is_some h.table ≡ false) × LinesFit no_fields lines)
@@ -262,13 +264,13 @@ lead_struct h lines size ts rest are sized e =
     let behind = sign 125 ∷ sign 91 ∷ spell_size size (sign 93 ∷ sign 59 ∷ rest) in
     let later = Start (with_struct h (record { row = row; size = size })) in
     lead_on (Start h) (Wants 123 (Fields h no_fields)) later ts (sign 123 ∷ spell_lines lines behind) rest (is_some h.table ≡ false) (LinesFit no_fields lines) _ (λ fits. fits.0) (λ fits. fits.1)
-        (one_or (is_some h.table) (Start h) (Wants 123 (Fields h no_fields)) ts (word (codes "struct")) _ faults.SecondStruct tt e (λ b place. (place, rw b refl)) (λ b place. rw b refl)) (λ ts e.
-        on_lead (Wants 123 (Fields h no_fields)) (Fields h no_fields) later ts (spell_lines lines behind) rest _ (one (Wants 123 (Fields h no_fields)) (Fields h no_fields) ts (sign 123) _ e (λ place. refl)) (λ ts e.
-            lead_then (Fields h no_fields) (Fields h row) later ts behind rest _ (lead_lines h no_fields lines ts behind are e) (λ ts e.
-                on (Fields h row) (Wants 91 (StructSize h row)) later ts (sign 91 ∷ spell_size size (sign 93 ∷ sign 59 ∷ rest)) rest (one (Fields h row) (Wants 91 (StructSize h row)) ts (sign 125) _ e (λ place. refl)) (λ ts e.
-                    on (Wants 91 (StructSize h row)) (StructSize h row) later ts (spell_size size (sign 93 ∷ sign 59 ∷ rest)) rest (one (Wants 91 (StructSize h row)) (StructSize h row) ts (sign 91) _ e (λ place. refl)) (λ ts e.
-                        on (StructSize h row) (closed h row size) later ts (sign 59 ∷ rest) rest (lead_size (StructSize h row) (closed h row) size ts (sign 59 ∷ rest) (λ t. refl) sized e) (λ ts e.
-                            one (closed h row size) later ts (sign 59) rest e (λ place. refl)))))))
+    (one_or (is_some h.table) (Start h) (Wants 123 (Fields h no_fields)) ts (word (codes "struct")) _ faults.SecondStruct tt e (λ b place. (place, rw b refl)) (λ b place. rw b refl)) (λ ts e.
+    on_lead (Wants 123 (Fields h no_fields)) (Fields h no_fields) later ts (spell_lines lines behind) rest _ (one (Wants 123 (Fields h no_fields)) (Fields h no_fields) ts (sign 123) _ e (λ place. refl)) (λ ts e.
+    lead_then (Fields h no_fields) (Fields h row) later ts behind rest _ (lead_lines h no_fields lines ts behind are e) (λ ts e.
+    on (Fields h row) (Wants 91 (StructSize h row)) later ts (sign 91 ∷ spell_size size (sign 93 ∷ sign 59 ∷ rest)) rest (one (Fields h row) (Wants 91 (StructSize h row)) ts (sign 125) _ e (λ place. refl)) (λ ts e.
+    on (Wants 91 (StructSize h row)) (StructSize h row) later ts (spell_size size (sign 93 ∷ sign 59 ∷ rest)) rest (one (Wants 91 (StructSize h row)) (StructSize h row) ts (sign 91) _ e (λ place. refl)) (λ ts e.
+    on (StructSize h row) (closed h row size) later ts (sign 59 ∷ rest) rest (lead_size (StructSize h row) (closed h row) size ts (sign 59 ∷ rest) (λ t. refl) sized e) (λ ts e.
+    one (closed h row size) later ts (sign 59) rest e (λ place. refl)))))))
 
 -- ---- statements
 
@@ -283,8 +285,8 @@ pub lead_all : (h : Header) (ss : List Statement) (ts : List Token) → AreState
 lead_all h [] ts are e = inl (one (Start h) (Done h) ts (Some End) [] e (λ place. refl))
 lead_all h (s ∷ ss) ts are e =
     lead_on (Start h) (Start (and_statement h s)) (Done (and_statements h (s ∷ ss))) ts (spell_each ss (Some End ∷ [])) [] (Fits h s) (AllFit (and_statement h s) ss) _ (λ fits. fits.0) (λ fits. fits.1)
-        (lead_statement h s ts (spell_each ss (Some End ∷ [])) are.0 e)
-        (λ ts e. lead_all (and_statement h s) ss ts are.1 e)
+    (lead_statement h s ts (spell_each ss (Some End ∷ [])) are.0 e)
+    (λ ts e. lead_all (and_statement h s) ss ts are.1 e)
 
 no_tokens : (ts : List Token) → spelling ts ≡ [] → ts ≡ []
 no_tokens [] e = refl
@@ -321,8 +323,8 @@ pub lead_each : (h : Header) (ss : List Statement) (ts : List Token) (rest : Spe
 lead_each h [] ts rest are e = inl (record { used = []; tokens = ts; split = refl; are = e; same = refl })
 lead_each h (s ∷ ss) ts rest are e =
     lead_on (Start h) (Start (and_statement h s)) (Start (and_statements h (s ∷ ss))) ts (spell_each ss rest) rest (Fits h s) (AllFit (and_statement h s) ss) _ (λ fits. fits.0) (λ fits. fits.1)
-        (lead_statement h s ts (spell_each ss rest) are.0 e)
-        (λ ts e. lead_each (and_statement h s) ss ts rest are.1 e)
+    (lead_statement h s ts (spell_each ss rest) are.0 e)
+    (λ ts e. lead_each (and_statement h s) ss ts rest are.1 e)
 
 pub since_fits : (s later : State) (ts : List Token) (rest : Spelling) (p : Type 0) → Leads s ts later rest p → p → GoesOn s ts later rest
 since_fits s later ts rest p (inl g) fits = g

@@ -1,5 +1,5 @@
 -- What may follow the tokens so far. The tokens lead from state to state, up to the end or the first fault.
-use Rattle.std.proofs.Common.{◌≡◌, ℕ, zero, suc, ◌+◌, ◌-◌, ◌*◌, Bool, true, false, cond, ◌&&◌, List, [], ◌∷◌, ◌++◌, length, Option, Some, None, Result, Ok, Err, ℤ, refl, sym, ap, ◌∙◌}
+use Rattle.std.proofs.Common.{ℕ, ◌+◌, ◌*◌, Bool, true, false, ◌&&◌, List, [], ◌∷◌, ◌++◌, length, Option, Some, None, Result, Ok, Err}
 use Rattle.std.specs.Prelude.{option_and_then, if◌then◌else◌, is_some, codes, nat_lt, ◌==◌}
 use Rattle.std.specs.Str.{bytes_eq}
 use Rattle.hot_model.specs.Limits.{max_columns, max_row_bytes}
@@ -8,12 +8,12 @@ use Rattle.sdf_header.specs.declared.fault.FaultKind.TheVariants as faults
 use Rattle.sdf_header.specs.declared.kind.Kind.{Kind}
 use Rattle.sdf_header.specs.declared.document.Value.{Value}
 use Rattle.sdf_header.specs.declared.document.Value.TheVariants as values
-use Rattle.sdf_header.specs.Tokens.{Lexeme, Word, Number, Text, Sign, End}
+use Rattle.sdf_header.specs.Tokens.{Lexeme}
 use Rattle.sdf_header.specs.TokenList.{Token}
 use Rattle.sdf_header.specs.Types.{kind_named, bytes_of, is_char}
 use Rattle.sdf_header.specs.Parts.{is_the, word_of, size_of, unsigned_type}
-use Rattle.sdf_header.specs.Fields.{Row, Struct, has_field, length_of, no_fields}
-use Rattle.sdf_header.specs.Statements.{Header, Param, with_param, with_struct, value_of, number_for, is_text, is_end}
+use Rattle.sdf_header.specs.Fields.{Row, has_field, length_of, no_fields}
+use Rattle.sdf_header.specs.Statements.{Header, with_param, with_struct, value_of, number_for, is_text, is_end}
 
 -- a fault and its place
 pub record Halt : Type 0 where

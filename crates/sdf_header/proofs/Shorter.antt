@@ -1,5 +1,5 @@
 -- What is read leaves fewer bytes.
-use Rattle.std.proofs.Common.{◌≡◌, ℕ, zero, suc, ◌+◌, ◌<◌, ◌≤◌, Bool, true, false, ◌&&◌, ◌⊎◌, inl, inr, List, [], ◌∷◌, length, Option, Some, None, Result, Ok, Err, refl, sym, ap, ◌∙◌, arith}
+use Rattle.std.proofs.Common.{◌≡◌, ℕ, zero, suc, ◌<◌, ◌≤◌, Bool, true, false, ◌&&◌, inl, inr, List, length, Option, Some, None, Result, Ok, Err, refl, sym, ap, ◌∙◌, arith}
 use Rattle.std.specs.Prelude.{if◌then◌else◌, is_some, codes, ◌==◌}
 use Rattle.std.specs.Str.{bytes_eq}
 use Rattle.std.proofs.lemmas.Bool.{cases_Bool}
@@ -11,8 +11,8 @@ use Rattle.sdf_header.specs.declared.document.Value.TheVariants as values
 use Rattle.sdf_header.specs.Tokens.{Lexeme, End, Lex, next, syntax_at, ◌>>=◌, or_here}
 use Rattle.sdf_header.specs.Types.{kind_named, is_char}
 use Rattle.sdf_header.specs.Parts.{or_fault, is_the, sign_at, Name, word_of, named, word_at, Names, new_name, size_of, size_at, unsigned_type, unsigned_end, unknown_type_at, name_twice_at, type_at}
-use Rattle.sdf_header.specs.Fields.{Row, Struct, has_field, with_field, length_of, array_at, bracket_in, item_at, items_at, line_at, lines_at, no_fields, struct_at, too_wide_at}
-use Rattle.sdf_header.specs.Statements.{Header, Param, with_param, with_struct, value_of, number_for, is_text, param_end, parameter_at, text_at, value_at, declaration_at, second_struct_at, statement_at}
+use Rattle.sdf_header.specs.Fields.{Row, Struct, has_field, with_field, length_of, array_at, bracket_in, item_at, items_at, line_at, lines_at, no_fields, struct_at}
+use Rattle.sdf_header.specs.Statements.{Header, Param, value_of, number_for, is_text, param_end, parameter_at, text_at, value_at, declaration_at, statement_at}
 use Rattle.sdf_header.proofs.TokenList.{LeavesLess, next_less}
 
 -- fewer than so many bytes are left
@@ -85,9 +85,9 @@ size_less : (n : ℕ) (bytes : List ℕ) → length bytes ≤ n → Under n (λ 
 unfolding size_at
 size_less n bytes le = token_then n bytes _ (λ (y : Option ℕ × List ℕ). y.1) le (λ l less.
     chosen n (is_the 93 l.lexeme) (Ok (None, l.rest)) (or_fault (syntax_at l.start) (size_of l.lexeme) >>= λ x. sign_at 93 l.rest >>= λ rest. Ok (Some x, rest)) (λ (y : Option ℕ × List ℕ). y.1)
-        (λ e. less (sign_not_end 93 l.lexeme e))
-        (λ e. option_then n l (syntax_at l.start) size_of (λ x. sign_at 93 l.rest >>= λ rest. Ok (Some x, rest)) (λ (y : Option ℕ × List ℕ). y.1) refl less
-            (λ x lt. sign_then n 93 l.rest (λ rest. Ok (Some x, rest)) (λ (y : Option ℕ × List ℕ). y.1) (omega arith) (λ rest lt. lt))))
+    (λ e. less (sign_not_end 93 l.lexeme e))
+    (λ e. option_then n l (syntax_at l.start) size_of (λ x. sign_at 93 l.rest >>= λ rest. Ok (Some x, rest)) (λ (y : Option ℕ × List ℕ). y.1) refl less
+    (λ x lt. sign_then n 93 l.rest (λ rest. Ok (Some x, rest)) (λ (y : Option ℕ × List ℕ). y.1) (omega arith) (λ rest lt. lt))))
 
 abbrev behind_param : Param × List ℕ → List ℕ
 behind_param y = y.1
@@ -103,15 +103,15 @@ parameter_less : (n : ℕ) (given : Names) (bytes : List ℕ) → length bytes �
 unfolding parameter_at
 parameter_less n given bytes le =
     chain n (new_name given bytes) (λ (x : Name). x.rest) _ behind_param (name_less n given bytes le) (λ x lt.
-        sign_then n 61 x.rest _ behind_param (omega arith) (λ after lt. value_then_less n x.name after value_of refl (omega arith)))
+    sign_then n 61 x.rest _ behind_param (omega arith) (λ after lt. value_then_less n x.name after value_of refl (omega arith)))
 
 text_less : (n : ℕ) (name bytes : List ℕ) → length bytes ≤ n → Under n behind_param (text_at name bytes)
 unfolding text_at
 text_less n name bytes le =
     chain n (size_at bytes) (λ (y : Option ℕ × List ℕ). y.1) _ behind_param (size_less n bytes le) (λ x lt.
-        sign_then n 61 x.1 _ behind_param (omega arith) (λ after lt.
-            token_then n after _ behind_param (omega arith) (λ l less.
-                chosen n (is_text l.lexeme) (param_end name values.Other l.rest) (Err (syntax_at l.start)) behind_param (λ e. (let lt = less (text_not_end l.lexeme e) in end_less n name values.Other l.rest (omega (arith, lt)))) (λ e. tt))))
+    sign_then n 61 x.1 _ behind_param (omega arith) (λ after lt.
+    token_then n after _ behind_param (omega arith) (λ l less.
+    chosen n (is_text l.lexeme) (param_end name values.Other l.rest) (Err (syntax_at l.start)) behind_param (λ e. (let lt = less (text_not_end l.lexeme e) in end_less n name values.Other l.rest (omega (arith, lt)))) (λ e. tt))))
   where
     text_not_end : (x : Lexeme) → is_text x ≡ true → x ≡ End → ⊥
     text_not_end x e is = (let h : is_text x ≡ false = ap is_text is in absurd cc)
@@ -120,12 +120,12 @@ declaration_less : (n : ℕ) (kind : Kind) (given : Names) (bytes : List ℕ) �
 unfolding declaration_at value_at
 declaration_less n kind given bytes le =
     chain n (new_name given bytes) (λ (x : Name). x.rest) _ behind_param (name_less n given bytes le) (λ x lt.
-        token_then n x.rest _ behind_param (omega arith) (λ l less.
-            chosen n (is_the 61 l.lexeme) _ _ behind_param
-                (λ e. (let lt = less (sign_not_end 61 l.lexeme e) in value_then_less n x.name l.rest (number_for kind) refl (omega (arith, lt))))
-                (λ e. chosen n (is_the 91 l.lexeme && is_char kind) (text_at x.name l.rest) (Err (syntax_at l.start)) behind_param
-                    (λ e. (let lt = less (sign_not_end 91 l.lexeme (left (is_the 91 l.lexeme) (is_char kind) e)) in text_less n x.name l.rest (omega (arith, lt))))
-                    (λ e. tt))))
+    token_then n x.rest _ behind_param (omega arith) (λ l less.
+    chosen n (is_the 61 l.lexeme) _ _ behind_param
+    (λ e. (let lt = less (sign_not_end 61 l.lexeme e) in value_then_less n x.name l.rest (number_for kind) refl (omega (arith, lt))))
+    (λ e. chosen n (is_the 91 l.lexeme && is_char kind) (text_at x.name l.rest) (Err (syntax_at l.start)) behind_param
+    (λ e. (let lt = less (sign_not_end 91 l.lexeme (left (is_the 91 l.lexeme) (is_char kind) e)) in text_less n x.name l.rest (omega (arith, lt))))
+    (λ e. tt))))
   where
     left : (a b : Bool) → (a && b) ≡ true → a ≡ true
     left true b e = refl
@@ -140,9 +140,9 @@ array_less : (n : ℕ) (row : Row) (kind : Kind) (x : Name) (bytes : List ℕ) �
 unfolding array_at
 array_less n row kind x bytes le =
     token_then n bytes _ behind_row le (λ l less.
-        option_then n l (syntax_at l.start) length_of _ behind_row refl less (λ count lt.
-            whatever n (with_field row kind x count true) _ behind_row (λ wide.
-                sign_then n 93 l.rest _ behind_row (omega arith) (λ rest lt. lt))))
+    option_then n l (syntax_at l.start) length_of _ behind_row refl less (λ count lt.
+    whatever n (with_field row kind x count true) _ behind_row (λ wide.
+    sign_then n 93 l.rest _ behind_row (omega arith) (λ rest lt. lt))))
 
 bracket_less : (n : ℕ) (row : Row) (kind : Kind) (x : Name) (r : Result Lex Fault) → length x.rest < n → LeavesLess (length x.rest) r → Under n behind_row (or_here (bracket_in r) (with_field row kind x 1 false >>= λ wide. Ok (wide, x.rest)) (array_at row kind x))
 bracket_less n row kind x (Err f) lt less = whatever n (with_field row kind x 1 false) _ behind_row (λ wide. lt)
@@ -156,50 +156,50 @@ pub item_less : (n : ℕ) (row : Row) (kind : Kind) (bytes : List ℕ) → lengt
 unfolding item_at
 item_less n row kind bytes le =
     chain n (word_at bytes) (λ (x : Name). x.rest) _ behind_row (word_less n bytes le) (λ x lt.
-        chosen n (has_field x.name row.fields) _ _ behind_row (λ e. tt) (λ e.
-            chosen n (length row.fields == max_columns) _ _ behind_row (λ e. tt) (λ e.
-                bracket_less n row kind x (next x.rest) lt (next_less x.rest))))
+    chosen n (has_field x.name row.fields) _ _ behind_row (λ e. tt) (λ e.
+    chosen n (length row.fields == max_columns) _ _ behind_row (λ e. tt) (λ e.
+    bracket_less n row kind x (next x.rest) lt (next_less x.rest))))
 
 pub items_less : (fuel n : ℕ) (kind : Kind) (row : Row) (bytes : List ℕ) → length bytes < n → Under n behind_row (items_at fuel kind row bytes)
 unfolding items_at
 items_less zero n kind row bytes lt = lt
 items_less (suc fuel) n kind row bytes lt =
     chain n (item_at row kind bytes) behind_row _ behind_row (item_less n row kind bytes (omega arith)) (λ one lt.
-        token_then n one.1 _ behind_row (omega arith) (λ l less.
-            chosen n (is_the 59 l.lexeme) _ _ behind_row (λ e. less (sign_not_end 59 l.lexeme e)) (λ e.
-                chosen n (is_the 44 l.lexeme) _ _ behind_row (λ e. (let lt = less (sign_not_end 44 l.lexeme e) in items_less fuel n kind one.0 l.rest lt)) (λ e. tt))))
+    token_then n one.1 _ behind_row (omega arith) (λ l less.
+    chosen n (is_the 59 l.lexeme) _ _ behind_row (λ e. less (sign_not_end 59 l.lexeme e)) (λ e.
+    chosen n (is_the 44 l.lexeme) _ _ behind_row (λ e. (let lt = less (sign_not_end 44 l.lexeme e) in items_less fuel n kind one.0 l.rest lt)) (λ e. tt))))
 
 pub line_less : (n : ℕ) (row : Row) (l : Lex) → ((l.lexeme ≡ End → ⊥) → length l.rest < n) → Under n behind_row (line_at row l)
 unfolding line_at
 line_less n row l less =
     chain n (named l) (λ (x : Name). x.rest) _ behind_row (option_then n l (syntax_at l.start) word_of (λ w. Ok (record { name = w; start = l.start; rest = l.rest })) (λ (x : Name). x.rest) refl less (λ w lt. lt)) (λ x lt.
-        chain n (type_at x) (λ (y : Kind × List ℕ). y.1) _ behind_row (type_less n x lt) (λ y lt. items_less (suc (length y.1)) n y.0 row y.1 lt))
+    chain n (type_at x) (λ (y : Kind × List ℕ). y.1) _ behind_row (type_less n x lt) (λ y lt. items_less (suc (length y.1)) n y.0 row y.1 lt))
 
 pub lines_less : (fuel n : ℕ) (row : Row) (bytes : List ℕ) → length bytes < n → Under n behind_row (lines_at fuel row bytes)
 unfolding lines_at
 lines_less zero n row bytes lt = lt
 lines_less (suc fuel) n row bytes lt =
     token_then n bytes _ behind_row (omega arith) (λ l less.
-        chosen n (is_the 125 l.lexeme) _ _ behind_row (λ e. less (sign_not_end 125 l.lexeme e)) (λ e.
-            chain n (line_at row l) behind_row _ behind_row (line_less n row l less) (λ one lt. lines_less fuel n one.0 one.1 lt)))
+    chosen n (is_the 125 l.lexeme) _ _ behind_row (λ e. less (sign_not_end 125 l.lexeme e)) (λ e.
+    chain n (line_at row l) behind_row _ behind_row (line_less n row l less) (λ one lt. lines_less fuel n one.0 one.1 lt)))
 
 struct_less : (n : ℕ) (bytes : List ℕ) → length bytes ≤ n → Under n (λ (y : Struct × List ℕ). y.1) (struct_at bytes)
 unfolding struct_at
 struct_less n bytes le =
     sign_then n 123 bytes _ (λ (y : Struct × List ℕ). y.1) le (λ inside lt.
-        chain n (lines_at (suc (length inside)) no_fields inside) behind_row _ (λ (y : Struct × List ℕ). y.1) (lines_less (suc (length inside)) n no_fields inside lt) (λ row lt.
-            sign_then n 91 row.1 _ (λ (y : Struct × List ℕ). y.1) (omega arith) (λ bracket lt.
-                chain n (size_at bracket) (λ (y : Option ℕ × List ℕ). y.1) _ (λ (y : Struct × List ℕ). y.1) (size_less n bracket (omega arith)) (λ size lt.
-                    sign_then n 59 size.1 _ (λ (y : Struct × List ℕ). y.1) (omega arith) (λ rest lt. lt)))))
+    chain n (lines_at (suc (length inside)) no_fields inside) behind_row _ (λ (y : Struct × List ℕ). y.1) (lines_less (suc (length inside)) n no_fields inside lt) (λ row lt.
+    sign_then n 91 row.1 _ (λ (y : Struct × List ℕ). y.1) (omega arith) (λ bracket lt.
+    chain n (size_at bracket) (λ (y : Option ℕ × List ℕ). y.1) _ (λ (y : Struct × List ℕ). y.1) (size_less n bracket (omega arith)) (λ size lt.
+    sign_then n 59 size.1 _ (λ (y : Struct × List ℕ). y.1) (omega arith) (λ rest lt. lt)))))
 
 pub statement_less : (n : ℕ) (h : Header) (l : Lex) → ((l.lexeme ≡ End → ⊥) → length l.rest < n) → Under n (λ (y : Header × List ℕ). y.1) (statement_at h l)
 unfolding statement_at
 statement_less n h l less =
     chain n (named l) (λ (x : Name). x.rest) _ (λ (y : Header × List ℕ). y.1) (option_then n l (syntax_at l.start) word_of (λ w. Ok (record { name = w; start = l.start; rest = l.rest })) (λ (x : Name). x.rest) refl less (λ w lt. lt)) (λ x lt.
-        chosen n (bytes_eq x.name (codes "parameter")) _ _ (λ (y : Header × List ℕ). y.1)
-            (λ e. chain n (parameter_at h.given x.rest) behind_param _ (λ (y : Header × List ℕ). y.1) (parameter_less n h.given x.rest (omega arith)) (λ p lt. lt))
-            (λ e. chosen n (bytes_eq x.name (codes "struct")) _ _ (λ (y : Header × List ℕ). y.1)
-                (λ e. chosen n (is_some h.table) _ _ (λ (y : Header × List ℕ). y.1) (λ e. tt)
-                    (λ e. chain n (struct_at x.rest) (λ (y : Struct × List ℕ). y.1) _ (λ (y : Header × List ℕ). y.1) (struct_less n x.rest (omega arith)) (λ t lt. lt)))
-                (λ e. chain n (type_at x) (λ (y : Kind × List ℕ). y.1) _ (λ (y : Header × List ℕ). y.1) (type_less n x lt) (λ kind lt.
-                    chain n (declaration_at kind.0 h.given kind.1) behind_param _ (λ (y : Header × List ℕ). y.1) (declaration_less n kind.0 h.given kind.1 (omega arith)) (λ p lt. lt)))))
+    chosen n (bytes_eq x.name (codes "parameter")) _ _ (λ (y : Header × List ℕ). y.1)
+    (λ e. chain n (parameter_at h.given x.rest) behind_param _ (λ (y : Header × List ℕ). y.1) (parameter_less n h.given x.rest (omega arith)) (λ p lt. lt))
+    (λ e. chosen n (bytes_eq x.name (codes "struct")) _ _ (λ (y : Header × List ℕ). y.1)
+    (λ e. chosen n (is_some h.table) _ _ (λ (y : Header × List ℕ). y.1) (λ e. tt)
+    (λ e. chain n (struct_at x.rest) (λ (y : Struct × List ℕ). y.1) _ (λ (y : Header × List ℕ). y.1) (struct_less n x.rest (omega arith)) (λ t lt. lt)))
+    (λ e. chain n (type_at x) (λ (y : Kind × List ℕ). y.1) _ (λ (y : Header × List ℕ). y.1) (type_less n x lt) (λ kind lt.
+    chain n (declaration_at kind.0 h.given kind.1) behind_param _ (λ (y : Header × List ℕ). y.1) (declaration_less n kind.0 h.given kind.1 (omega arith)) (λ p lt. lt)))))

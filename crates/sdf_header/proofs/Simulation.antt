@@ -1,5 +1,5 @@
 -- Reading a text is a run of its tokens.
-use Rattle.std.proofs.Common.{◌≡◌, ℕ, zero, suc, ◌+◌, ◌-◌, ◌*◌, ◌<◌, ◌≤◌, Bool, true, false, cond, ◌&&◌, ◌⊎◌, inl, inr, List, [], ◌∷◌, length, Option, Some, None, Result, Ok, Err, ℤ, refl, sym, ap, ◌∙◌, arith}
+use Rattle.std.proofs.Common.{◌≡◌, ℕ, zero, suc, ◌+◌, ◌-◌, ◌*◌, ◌<◌, Bool, true, false, ◌&&◌, inl, inr, List, [], ◌∷◌, length, Option, Some, None, Result, Ok, Err, refl, sym, ap, ◌∙◌, arith}
 use Rattle.std.specs.Prelude.{option_and_then, if◌then◌else◌, is_some, codes, nat_lt, ◌==◌}
 use Rattle.std.specs.Str.{bytes_eq}
 use Rattle.std.proofs.lemmas.Bool.{cases_Bool}
@@ -13,12 +13,12 @@ use Rattle.sdf_header.specs.declared.document.Value.TheVariants as values
 use Rattle.sdf_header.specs.Tokens.{Lexeme, Word, Number, Text, Sign, End, Lex, next, syntax_at, ◌>>=◌, or_here}
 use Rattle.sdf_header.specs.TokenList.{Token, token, tokens_behind}
 use Rattle.sdf_header.specs.Types.{kind_named, unsigned_kind, bytes_of, is_char}
-use Rattle.sdf_header.specs.Parts.{or_fault, is_the, sign_at, Name, word_of, named, word_at, Names, new_name, size_of, size_at, unsigned_type, unsigned_end, unknown_type_at, name_twice_at, type_at}
+use Rattle.sdf_header.specs.Parts.{or_fault, is_the, sign_at, Name, word_of, named, word_at, new_name, size_of, size_at, unsigned_type, unsigned_end, unknown_type_at, name_twice_at, type_at}
 use Rattle.sdf_header.specs.Fields.{Row, Struct, has_field, with_field, length_of, array_at, bracket_in, item_at, items_at, line_at, lines_at, no_fields, struct_at, too_wide_at}
 use Rattle.sdf_header.specs.Statements.{Header, Param, with_param, with_struct, value_of, number_for, is_text, is_end, param_end, parameter_at, text_at, value_at, declaration_at, second_struct_at, statement_at, statements_at, nothing_given, header_in}
 use Rattle.sdf_header.proofs.TokenList.{none_at, listed, listed_behind, first_token, IsSyntax, next_syntax, LeavesLess, next_less}
-use Rattle.sdf_header.proofs.Shorter.{Under, item_less, line_less, lines_less, statement_less}
-use Rattle.sdf_header.proofs.Machine.{Halt, halt, State, Done, Start, Wants, ParamName, ParamValue, Unsigned, Typed, Named, NumberFor, TextSize, TextValue, Fields, FieldUnsigned, Item, ItemName, Length, ItemEnd, StructSize, wanted, has, ends, word_in, widened, or_halt, given, closed, on_type, on_statement, on_name, on_item_end, on_item, text_in, step, and_then, goes}
+use Rattle.sdf_header.proofs.Shorter.{Under, item_less, line_less, statement_less}
+use Rattle.sdf_header.proofs.Machine.{Halt, halt, State, Done, Start, Wants, ParamName, ParamValue, Unsigned, Typed, Named, NumberFor, TextSize, TextValue, Fields, FieldUnsigned, Item, ItemName, Length, ItemEnd, StructSize, wanted, has, word_in, widened, or_halt, given, closed, on_type, on_statement, on_name, on_item_end, on_item, step, and_then, goes}
 
 -- what was read goes on like this; a fault ends the run
 abbrev pub onward : {A : Type 0} → ℕ → (A → Result State Halt) → Result A Fault → Result State Halt
@@ -166,15 +166,15 @@ value_then : (z : ℕ) (h : Header) (name : List ℕ) (s : State) (o : Lexeme �
     → from z s bytes ≡ onward z (λ (x : Param × List ℕ). from z (Start (with_param h x.0)) x.1) (next bytes >>= λ l. or_fault (syntax_at l.start) (o l.lexeme) >>= λ value. param_end name value l.rest)
 value_then z h name s o bytes e n =
     chain z (next bytes) _ _ _ _ (first z s bytes (λ place. e (no_token place)))
-        (λ l. by_option z s l.lexeme l.start l.rest o (λ v. Ok (given h name v)) (e (token z (Some l.lexeme) l.start)) n
-        ∙ fault_or z l.start (o l.lexeme) (λ value. param_end name value l.rest) (λ (x : Param × List ℕ). from z (Start (with_param h x.0)) x.1) (λ v. from z (given h name v) l.rest) (λ v. value_end z h name v l.rest))
+    (λ l. by_option z s l.lexeme l.start l.rest o (λ v. Ok (given h name v)) (e (token z (Some l.lexeme) l.start)) n
+    ∙ fault_or z l.start (o l.lexeme) (λ value. param_end name value l.rest) (λ (x : Param × List ℕ). from z (Start (with_param h x.0)) x.1) (λ v. from z (given h name v) l.rest) (λ v. value_end z h name v l.rest))
 
 parameter : (z : ℕ) (h : Header) (bytes : List ℕ) → from z (ParamName h) bytes ≡ onward z (λ (x : Param × List ℕ). from z (Start (with_param h x.0)) x.1) (parameter_at h.given bytes)
 unfolding parameter_at
 parameter z h bytes =
     chain z (new_name h.given bytes) _ _ _ _ (fresh z h (ParamName h) (λ w. Wants 61 (ParamValue h w)) bytes (λ t. refl))
-        (λ n. chain z (sign_at 61 n.rest) _ _ _ _ (sign z 61 (ParamValue h n.name) n.rest)
-            (λ after. value_then z h n.name (ParamValue h n.name) value_of after (λ t. refl) refl))
+    (λ n. chain z (sign_at 61 n.rest) _ _ _ _ (sign z 61 (ParamValue h n.name) n.rest)
+    (λ after. value_then z h n.name (ParamValue h n.name) value_of after (λ t. refl) refl))
 
 value : (z : ℕ) (h : Header) (kind : Kind) (name : List ℕ) (bytes : List ℕ) → from z (NumberFor h kind name) bytes ≡ onward z (λ (x : Param × List ℕ). from z (Start (with_param h x.0)) x.1) (value_at kind name bytes)
 unfolding value_at
@@ -190,7 +190,7 @@ size_lex z s sized x start rest e =
       | inr t ↦ rw t (
           by_option z s x start rest size_of (λ n. Ok (Wants 93 (sized (Some n)))) (e (token z (Some x) start) ∙ rw t refl) refl
           ∙ fault_or z start (size_of x) (λ n. sign_at 93 rest >>= λ rest. Ok (Some n, rest)) (λ (x : Option ℕ × List ℕ). from z (sized x.0) x.1) (λ n. from z (Wants 93 (sized (Some n))) rest)
-              (λ n. chain z (sign_at 93 rest) _ _ _ _ (sign z 93 (sized (Some n)) rest) (λ rest. refl)))
+          (λ n. chain z (sign_at 93 rest) _ _ _ _ (sign z 93 (sized (Some n)) rest) (λ rest. refl)))
     ]
 
 size : (z : ℕ) (s : State) (sized : Option ℕ → State) (bytes : List ℕ)
@@ -213,8 +213,8 @@ text : (z : ℕ) (h : Header) (name bytes : List ℕ) → from z (TextSize h nam
 unfolding text_at
 text z h name bytes =
     chain z (size_at bytes) _ _ _ _ (size z (TextSize h name) (λ o. Wants 61 (TextValue h name)) bytes (λ t. refl))
-        (λ x. chain z (sign_at 61 x.1) _ _ _ _ (sign z 61 (TextValue h name) x.1)
-            (λ after. chain z (next after) _ _ _ _ (first z (TextValue h name) after (λ place. refl)) (λ l. text_lex z h name l.lexeme l.start l.rest)))
+    (λ x. chain z (sign_at 61 x.1) _ _ _ _ (sign z 61 (TextValue h name) x.1)
+    (λ after. chain z (next after) _ _ _ _ (first z (TextValue h name) after (λ place. refl)) (λ l. text_lex z h name l.lexeme l.start l.rest)))
 
 declared_lex : (z : ℕ) (h : Header) (kind : Kind) (name : List ℕ) (x : Lexeme) (start rest : List ℕ)
     → at z (Named h kind name) x start rest ≡ onward z (λ (x : Param × List ℕ). from z (Start (with_param h x.0)) x.1) (if is_the 61 x then value_at kind name rest else if is_the 91 x && is_char kind then text_at name rest else Err (syntax_at start))
@@ -237,7 +237,7 @@ declaration : (z : ℕ) (h : Header) (kind : Kind) (bytes : List ℕ) → from z
 unfolding declaration_at
 declaration z h kind bytes =
     chain z (new_name h.given bytes) _ _ _ _ (fresh z h (Typed h kind) (λ w. Named h kind w) bytes (λ t. refl))
-        (λ n. chain z (next n.rest) _ _ _ _ (first z (Named h kind n.name) n.rest (λ place. refl)) (λ l. declared_lex z h kind n.name l.lexeme l.start l.rest))
+    (λ n. chain z (next n.rest) _ _ _ _ (first z (Named h kind n.name) n.rest (λ place. refl)) (λ l. declared_lex z h kind n.name l.lexeme l.start l.rest))
 
 -- ---- items
 
@@ -258,11 +258,11 @@ array : (z : ℕ) (h : Header) (row : Row) (kind : Kind) (n : Name) (bytes : Lis
 unfolding array_at
 array z h row kind n bytes =
     chain z (next bytes) _ _ _ _ (first z (Length h row kind n.name (z - length n.start)) bytes (λ place. refl))
-        (λ l. by_option z (Length h row kind n.name (z - length n.start)) l.lexeme l.start l.rest length_of (λ count. or_halt faults.TooWide (z - length n.start) (widened row kind n.name count true) (λ wider. Ok (Wants 93 (ItemEnd h wider kind)))) refl refl
-        ∙ fault_or z l.start (length_of l.lexeme) (λ count. with_field row kind n count true >>= λ wider. sign_at 93 l.rest >>= λ rest. Ok (wider, rest)) (λ (x : Row × List ℕ). from z (ItemEnd h x.0 kind) x.1) (λ count. and_then (or_halt faults.TooWide (z - length n.start) (widened row kind n.name count true) (λ wider. Ok (Wants 93 (ItemEnd h wider kind)))) (λ s. from z s l.rest))
-            (λ count. push_wide faults.TooWide (z - length n.start) (widened row kind n.name count true) (λ wider. Ok (Wants 93 (ItemEnd h wider kind))) (tokens_behind z l.rest 0)
-            ∙ chain z (with_field row kind n count true) _ (λ wider. from z (Wants 93 (ItemEnd h wider kind)) l.rest) _ _ (wide z row kind n count true (λ wider. from z (Wants 93 (ItemEnd h wider kind)) l.rest))
-                (λ wider. chain z (sign_at 93 l.rest) _ _ _ _ (sign z 93 (ItemEnd h wider kind) l.rest) (λ rest. refl))))
+    (λ l. by_option z (Length h row kind n.name (z - length n.start)) l.lexeme l.start l.rest length_of (λ count. or_halt faults.TooWide (z - length n.start) (widened row kind n.name count true) (λ wider. Ok (Wants 93 (ItemEnd h wider kind)))) refl refl
+    ∙ fault_or z l.start (length_of l.lexeme) (λ count. with_field row kind n count true >>= λ wider. sign_at 93 l.rest >>= λ rest. Ok (wider, rest)) (λ (x : Row × List ℕ). from z (ItemEnd h x.0 kind) x.1) (λ count. and_then (or_halt faults.TooWide (z - length n.start) (widened row kind n.name count true) (λ wider. Ok (Wants 93 (ItemEnd h wider kind)))) (λ s. from z s l.rest))
+    (λ count. push_wide faults.TooWide (z - length n.start) (widened row kind n.name count true) (λ wider. Ok (Wants 93 (ItemEnd h wider kind))) (tokens_behind z l.rest 0)
+    ∙ chain z (with_field row kind n count true) _ (λ wider. from z (Wants 93 (ItemEnd h wider kind)) l.rest) _ _ (wide z row kind n count true (λ wider. from z (Wants 93 (ItemEnd h wider kind)) l.rest))
+    (λ wider. chain z (sign_at 93 l.rest) _ _ _ _ (sign z 93 (ItemEnd h wider kind) l.rest) (λ rest. refl))))
 
 -- an item without a length ends where the next token is no bracket
 plain_wide : (z : ℕ) (h : Header) (kind : Kind) (place : ℕ) (t : Token) (ts : List Token) (o : Option Row) → and_then (or_halt faults.TooWide place o (λ wider. on_item_end h wider kind t)) (λ s. goes s ts) ≡ or_halt faults.TooWide place o (λ wider. goes (ItemEnd h wider kind) (t ∷ ts))
@@ -275,9 +275,9 @@ plain : (z : ℕ) (h : Header) (row : Row) (kind : Kind) (n : Name) (t : Token) 
 unfolding goes
 plain z h row kind n t ts isnt e =
     rw isnt (
-        plain_wide z h kind (z - length n.start) t ts (widened row kind n.name 1 false)
-        ∙ chain z (with_field row kind n 1 false) _ (λ wider. goes (ItemEnd h wider kind) (t ∷ ts)) _ _ (wide z row kind n 1 false (λ wider. goes (ItemEnd h wider kind) (t ∷ ts)))
-            (λ wider. ap (goes (ItemEnd h wider kind)) (sym e)))
+    plain_wide z h kind (z - length n.start) t ts (widened row kind n.name 1 false)
+    ∙ chain z (with_field row kind n 1 false) _ (λ wider. goes (ItemEnd h wider kind) (t ∷ ts)) _ _ (wide z row kind n 1 false (λ wider. goes (ItemEnd h wider kind) (t ∷ ts)))
+    (λ wider. ap (goes (ItemEnd h wider kind)) (sym e)))
 
 bracket : (z : ℕ) (h : Header) (row : Row) (kind : Kind) (n : Name) (r : Result Lex Fault) → tokens_behind z n.rest 0 ≡ listed z r
     → goes (ItemName h row kind n.name (z - length n.start)) (listed z r) ≡ onward z (λ (x : Row × List ℕ). from z (ItemEnd h x.0 kind) x.1) (or_here (bracket_in r) (with_field row kind n 1 false >>= λ wider. Ok (wider, n.rest)) (array_at row kind n))
@@ -342,15 +342,15 @@ unfolding items_at
 items zero z h kind row bytes lt = absurd (omega arith)
 items (suc n) z h kind row bytes lt =
     chain_less z (length bytes) (λ (x : Row × List ℕ). x.1) (item_at row kind bytes) _ _ _ _ (item_less (length bytes) row kind bytes (omega arith)) (item z h row kind bytes) (λ one less.
-        chain_next z one.1 _ _ _ _ (first z (ItemEnd h one.0 kind) one.1 (λ place. refl)) (λ l fewer.
-            item_end_lex z h one.0 kind l (items_at n kind one.0 l.rest) (λ e. (let after = fewer (sign_no_end 44 l.lexeme e) in items n z h kind one.0 l.rest (omega (arith, after, less, lt))))))
+    chain_next z one.1 _ _ _ _ (first z (ItemEnd h one.0 kind) one.1 (λ place. refl)) (λ l fewer.
+    item_end_lex z h one.0 kind l (items_at n kind one.0 l.rest) (λ e. (let after = fewer (sign_no_end 44 l.lexeme e) in items n z h kind one.0 l.rest (omega (arith, after, less, lt))))))
 
 line : (z : ℕ) (h : Header) (row : Row) (l : Lex) → is_the 125 l.lexeme ≡ false → at z (Fields h row) l.lexeme l.start l.rest ≡ onward z (λ (x : Row × List ℕ). from z (Fields h x.0) x.1) (line_at row l)
 unfolding line_at
 line z h row l isnt =
     chain z (named l) _ _ _ _ (word_lex z (Fields h row) (λ place. on_type place (Item h row) (FieldUnsigned h row place)) l (rw isnt refl)) (λ n.
-        chain z (type_at n) _ _ _ _ (type z n (Item h row) (FieldUnsigned h row (z - length n.start)) (λ t. refl)) (λ kind.
-            items (suc (length kind.1)) z h kind.0 row kind.1 (omega arith)))
+    chain z (type_at n) _ _ _ _ (type z n (Item h row) (FieldUnsigned h row (z - length n.start)) (λ t. refl)) (λ kind.
+    items (suc (length kind.1)) z h kind.0 row kind.1 (omega arith)))
 
 fields_lex : (z : ℕ) (h : Header) (row : Row) (l : Lex) (k : Row × List ℕ → Result (Row × List ℕ) Fault)
     → (is_the 125 l.lexeme ≡ false → at z (Fields h row) l.lexeme l.start l.rest ≡ onward z (λ (x : Row × List ℕ). from z (Wants 91 (StructSize h x.0)) x.1) (line_at row l >>= k))
@@ -367,18 +367,18 @@ unfolding lines_at
 lines zero z h row bytes lt = absurd (omega arith)
 lines (suc n) z h row bytes lt =
     chain_next z bytes _ _ _ _ (first z (Fields h row) bytes (λ place. refl)) (λ l less.
-        fields_lex z h row l _ (λ isnt.
-            chain_less z (length bytes) (λ (x : Row × List ℕ). x.1) (line_at row l) _ _ _ _ (line_less (length bytes) row l less) (line z h row l isnt) (λ one less.
-                lines n z h one.0 one.1 (omega arith))))
+    fields_lex z h row l _ (λ isnt.
+    chain_less z (length bytes) (λ (x : Row × List ℕ). x.1) (line_at row l) _ _ _ _ (line_less (length bytes) row l less) (line z h row l isnt) (λ one less.
+    lines n z h one.0 one.1 (omega arith))))
 
 struct : (z : ℕ) (h : Header) (bytes : List ℕ) → from z (Wants 123 (Fields h no_fields)) bytes ≡ onward z (λ (x : Struct × List ℕ). from z (Start (with_struct h x.0)) x.1) (struct_at bytes)
 unfolding struct_at
 struct z h bytes =
     chain z (sign_at 123 bytes) _ _ _ _ (sign z 123 (Fields h no_fields) bytes) (λ inside.
-        chain z (lines_at (suc (length inside)) no_fields inside) _ _ _ _ (lines (suc (length inside)) z h no_fields inside (omega arith)) (λ row.
-            chain z (sign_at 91 row.1) _ _ _ _ (sign z 91 (StructSize h row.0) row.1) (λ bracket.
-                chain z (size_at bracket) _ _ _ _ (size z (StructSize h row.0) (closed h row.0) bracket (λ t. refl)) (λ size.
-                    chain z (sign_at 59 size.1) _ _ _ _ (sign z 59 (Start (with_struct h (record { row = row.0; size = size.0 }))) size.1) (λ rest. refl)))))
+    chain z (lines_at (suc (length inside)) no_fields inside) _ _ _ _ (lines (suc (length inside)) z h no_fields inside (omega arith)) (λ row.
+    chain z (sign_at 91 row.1) _ _ _ _ (sign z 91 (StructSize h row.0) row.1) (λ bracket.
+    chain z (size_at bracket) _ _ _ _ (size z (StructSize h row.0) (closed h row.0) bracket (λ t. refl)) (λ size.
+    chain z (sign_at 59 size.1) _ _ _ _ (sign z 59 (Start (with_struct h (record { row = row.0; size = size.0 }))) size.1) (λ rest. refl)))))
 
 abbrev then_start : ℕ → Header × List ℕ → Result State Halt
 then_start z x = from z (Start x.0) x.1
@@ -435,9 +435,9 @@ unfolding statements_at
 statements zero z h bytes lt = absurd (omega arith)
 statements (suc n) z h bytes lt =
     chain_next z bytes _ _ _ _ (first z (Start h) bytes (λ place. refl)) (λ l less.
-        start_lex z h l _ (λ isnt.
-            chain_less z (length bytes) (λ (x : Header × List ℕ). x.1) (statement_at h l) _ _ _ _ (statement_less (length bytes) h l less) (statement z h l isnt) (λ one less.
-                statements n z one.0 one.1 (omega arith))))
+    start_lex z h l _ (λ isnt.
+    chain_less z (length bytes) (λ (x : Header × List ℕ). x.1) (statement_at h l) _ _ _ _ (statement_less (length bytes) h l less) (statement z h l isnt) (λ one less.
+    statements n z one.0 one.1 (omega arith))))
 
 -- the header of a text is what its tokens lead to
 pub header_goes : (z : ℕ) (text : List ℕ) → goes (Start nothing_given) (tokens_behind z text 0) ≡ onward z done (header_in text)

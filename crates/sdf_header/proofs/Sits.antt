@@ -1,8 +1,8 @@
 -- What the tokens so far spell, at each state.
-use Rattle.std.proofs.Common.{◌≡◌, ℕ, zero, suc, ◌+◌, ◌*◌, ◌<◌, ◌≤◌, ◌^◌, Bool, true, false, cond, ◌&&◌, ◌⊎◌, inl, inr, List, [], ◌∷◌, ◌++◌, length, map, Option, Some, None, Result, Ok, Err, ℤ, pos, negsuc, refl, sym, ap, subst, ◌∙◌, append_assoc, arith}
-use Rattle.std.specs.Prelude.{option_and_then, if◌then◌else◌, is_some, codes, nat_lt, nat_le, ◌==◌}
+use Rattle.std.proofs.Common.{◌≡◌, ℕ, ◌+◌, ◌*◌, ◌<◌, ◌≤◌, ◌^◌, Bool, true, false, cond, ◌&&◌, ◌⊎◌, inl, inr, List, [], ◌∷◌, ◌++◌, length, Option, Some, None, Result, Ok, pos, negsuc, refl, sym, ap, subst, ◌∙◌, append_assoc}
+use Rattle.std.specs.Prelude.{option_and_then, is_some, codes, nat_lt, nat_le, ◌==◌}
 use Rattle.std.specs.Str.{bytes_eq}
-use Rattle.std.proofs.lemmas.Bool.{cases_Bool, leb-true, ltb-true, eqb-true}
+use Rattle.std.proofs.lemmas.Bool.{leb-true, ltb-true, eqb-true}
 use Rattle.std.proofs.lemmas.Slice.Eq.{bytes_eq-Decides}
 use Rattle.hot_model.specs.Limits.{max_columns, max_row_bytes}
 use Rattle.sdf_header.specs.declared.fault.FaultKind.{FaultKind}
@@ -12,13 +12,12 @@ use Rattle.sdf_header.specs.declared.document.Value.{Value}
 use Rattle.sdf_header.specs.declared.document.Value.TheVariants as values
 use Rattle.sdf_header.specs.Limits.{max_array_length}
 use Rattle.sdf_header.specs.Tokens.{Lexeme, Word, Number, Text, Sign, End}
-use Rattle.sdf_header.specs.TokenList.{Token}
-use Rattle.sdf_header.specs.Types.{kind_named, unsigned_kind, bytes_of, is_char}
-use Rattle.sdf_header.specs.Parts.{is_the, size_of, unsigned_type, word_of}
+use Rattle.sdf_header.specs.Types.{kind_named, bytes_of, is_char}
+use Rattle.sdf_header.specs.Parts.{size_of, unsigned_type}
 use Rattle.sdf_header.specs.Fields.{Row, has_field, length_of, no_fields}
-use Rattle.sdf_header.specs.Statements.{Header, with_param, with_struct, nothing_given, value_of, number_for, is_end, is_text}
-use Rattle.sdf_header.specs.Grammar.{Spelling, spelling, word, sign, count, TypeName, types, type_in, IsType, Item, FieldLine, Statement, Parameter, Constant, Label, Struct, IsSize, IsLength, AreItems, AreLines, IsStatement, AreStatements, spell_type, spell_size, spell_length, spell_item, spell_earlier, spell_line, spell_lines, spell, spell_each, values_of, and_item, ItemFits, and_items, ItemsFit, and_line, and_lines, LinesFit, and_statement, Fits, and_statements, AllFit, said}
-use Rattle.sdf_header.proofs.Machine.{Halt, halt, State, Done, Start, Wants, ParamName, ParamValue, Unsigned, Typed, Named, NumberFor, TextSize, TextValue, Fields, FieldUnsigned, Item as AtItem, ItemName, Length, ItemEnd, StructSize, wanted, has, ends, word_in, widened, or_halt, given, closed, on_type, on_statement, on_name, on_item, on_item_end, text_in, step, and_then, goes}
+use Rattle.sdf_header.specs.Statements.{Header, with_param, with_struct, nothing_given, value_of, number_for}
+use Rattle.sdf_header.specs.Grammar.{Spelling, word, sign, count, TypeName, types, type_in, IsType, Item, FieldLine, Statement, Parameter, Constant, Label, Struct, IsSize, IsLength, AreItems, AreLines, IsStatement, AreStatements, spell_type, spell_size, spell_item, spell_earlier, spell_line, spell_lines, spell, spell_each, and_item, ItemFits, and_items, ItemsFit, and_line, and_lines, LinesFit, and_statement, Fits, and_statements, AllFit, said}
+use Rattle.sdf_header.proofs.Machine.{Halt, halt, State, Done, Start, Wants, ParamName, ParamValue, Unsigned, Typed, Named, NumberFor, TextSize, TextValue, Fields, FieldUnsigned, Item as AtItem, ItemName, Length, ItemEnd, StructSize, wanted, has, ends, word_in, widened, or_halt, given, closed, on_type, on_statement, on_name, on_item, on_item_end, text_in, step}
 
 -- ---- one more at the end
 
@@ -344,7 +343,7 @@ line_whole h row kind b r =
     let line : FieldLine = record { type = l.type; earlier = l.earlier; last = r.item } in
     let fits : ItemFits l.type.kind (and_items l.type.kind l.first l.earlier) r.item = subst (λ x. ItemFits l.type.kind x r.item) (sym l.say) (subst (λ k. ItemFits k r.narrower r.item) (sym l.kind_is) r.fits) in
     let both : ItemsFit l.type.kind (and_lines no_fields s.lines) l.earlier × ItemFits l.type.kind (and_items l.type.kind (and_lines no_fields s.lines) l.earlier) r.item =
-        subst (λ x. ItemsFit l.type.kind x l.earlier × ItemFits l.type.kind (and_items l.type.kind x l.earlier) r.item) (sym s.say) (l.fit, fits) in
+    subst (λ x. ItemsFit l.type.kind x l.earlier × ItemFits l.type.kind (and_items l.type.kind x l.earlier) r.item) (sym s.say) (l.fit, fits) in
     record {
       lines = s.lines ++ line ∷ [];
       are = are_lines-one s.lines line s.are (l.is, l.are, r.is);
@@ -361,7 +360,10 @@ item_whole h row kind b r =
     let s = l.struct in
     let fits : ItemFits l.type.kind (and_items l.type.kind l.first l.earlier) r.item = subst (λ x. ItemFits l.type.kind x r.item) (sym l.say) (subst (λ k. ItemFits k r.narrower r.item) (sym l.kind_is) r.fits) in
     record {
-      first = l.first; type = l.type; is = l.is; kind_is = l.kind_is;
+      first = l.first;
+      type = l.type;
+      is = l.is;
+      kind_is = l.kind_is;
       earlier = l.earlier ++ r.item ∷ [];
       are = are_items-one l.earlier r.item l.are r.is;
       fit = items_fit-one l.type.kind l.first l.earlier r.item l.fit fits;
@@ -410,7 +412,7 @@ sits_on (ParamValue h name) s1 b x p e sits =
     (let w = wanted_is p (option_and_then value_of x) (λ v. Ok (given h name v)) s1 e in
     let l = token_is value_of x w.0 w.1 in
     lands_at (given h name w.0) s1 b x (Some l.0) l.1 w.2
-        (given_sits h (b ++ Some l.0 ∷ []) (λ rest. word (codes "parameter") ∷ word name ∷ sign 61 ∷ Some l.0 ∷ rest) (Parameter name l.0 w.0) name w.0 (shift h b _ _ (Some l.0) sits.1 (λ rest. refl)) l.2 sits.0 refl (λ rest. refl)))
+    (given_sits h (b ++ Some l.0 ∷ []) (λ rest. word (codes "parameter") ∷ word name ∷ sign 61 ∷ Some l.0 ∷ rest) (Parameter name l.0 w.0) name w.0 (shift h b _ _ (Some l.0) sits.1 (λ rest. refl)) l.2 sits.0 refl (λ rest. refl)))
 sits_on (Unsigned h q) s1 b x p e sits =
     (let k = or_halt_is faults.UnknownType q (option_and_then unsigned_type x) (λ kind. Ok (Typed h kind)) s1 e in
     let w = unsigned_is x k.0 k.1 in
@@ -435,7 +437,7 @@ sits_on (NumberFor h kind name) s1 b x p e sits =
     let t = sits.1 in
     let number : number_for t.type.kind l.0 ≡ Some w.0 = ap (λ k. number_for k l.0) t.kind_is ∙ l.2 in
     lands_at (given h name w.0) s1 b x (Some l.0) l.1 w.2
-        (given_sits h (b ++ Some l.0 ∷ []) (λ rest. spell_type t.type (word name ∷ sign 61 ∷ Some l.0 ∷ rest)) (Constant t.type name l.0 w.0) name w.0 (shift h b _ _ (Some l.0) t.before (λ rest. refl)) (t.is, number) sits.0 refl (λ rest. refl)))
+    (given_sits h (b ++ Some l.0 ∷ []) (λ rest. spell_type t.type (word name ∷ sign 61 ∷ Some l.0 ∷ rest)) (Constant t.type name l.0 w.0) name w.0 (shift h b _ _ (Some l.0) t.before (λ rest. refl)) (t.is, number) sits.0 refl (λ rest. refl)))
 sits_on (TextSize h name) s1 b x p e sits =
     elim (either (has 93 x) (Ok (Wants 61 (TextValue h name))) (wanted p (option_and_then size_of x) (λ n. Ok (Wants 93 (Wants 61 (TextValue h name))))) (Ok s1) e) [
       | inl t ↦ lands_at (Wants 61 (TextValue h name)) s1 b x (sign 93) (sign_is 93 x t.0) t.1
@@ -445,8 +447,16 @@ sits_on (TextSize h name) s1 b x p e sits =
           let l = token_is size_of x n.0 n.1 in
           let size = size_is l.0 n.0 l.2 in
           lands_at (Wants 93 (Wants 61 (TextValue h name))) s1 b x (count n.0) (l.1 ∙ size.0) n.2
-              (record { size = Some n.0; is = size.1; text = record { new = sits.new; kind = sits.kind; char = sits.char;
-                type = shift_type h sits.kind ((b ++ count n.0 ∷ []) ++ sign 93 ∷ []) _ _ (sign 61) (shift_type h sits.kind (b ++ count n.0 ∷ []) _ (λ rest. word name ∷ sign 91 ∷ count n.0 ∷ sign 93 ∷ rest) (sign 93) (shift_type h sits.kind b _ (λ rest. word name ∷ sign 91 ∷ count n.0 ∷ rest) (count n.0) sits.type (λ rest. refl)) (λ rest. refl)) (λ rest. refl) } }))
+          (record {
+            size = Some n.0;
+            is = size.1;
+            text = record {
+              new = sits.new;
+              kind = sits.kind;
+              char = sits.char;
+              type = shift_type h sits.kind ((b ++ count n.0 ∷ []) ++ sign 93 ∷ []) _ _ (sign 61) (shift_type h sits.kind (b ++ count n.0 ∷ []) _ (λ rest. word name ∷ sign 91 ∷ count n.0 ∷ sign 93 ∷ rest) (sign 93) (shift_type h sits.kind b _ (λ rest. word name ∷ sign 91 ∷ count n.0 ∷ rest) (count n.0) sits.type (λ rest. refl)) (λ rest. refl)) (λ rest. refl);
+            };
+          }))
     ]
 sits_on (TextValue h name) s1 b x p e sits =
     (let w = wanted_is p (option_and_then text_in x) (λ v. Ok (given h name values.Other)) s1 e in
@@ -454,17 +464,17 @@ sits_on (TextValue h name) s1 b x p e sits =
     let t = text.type in
     let char : is_char t.type.kind ≡ true = ap is_char t.kind_is ∙ text.char in
     lands_at (given h name values.Other) s1 b x (Some Text) (text_is x w.0 w.1) w.2
-        (given_sits h (b ++ Some Text ∷ []) (λ rest. spell_type t.type (word name ∷ sign 91 ∷ spell_size sits.size (sign 93 ∷ sign 61 ∷ Some Text ∷ rest))) (Label t.type name sits.size) name values.Other (shift h b _ _ (Some Text) t.before (λ rest. refl)) (t.is, char, sits.is) text.new refl (λ rest. refl)))
+    (given_sits h (b ++ Some Text ∷ []) (λ rest. spell_type t.type (word name ∷ sign 91 ∷ spell_size sits.size (sign 93 ∷ sign 61 ∷ Some Text ∷ rest))) (Label t.type name sits.size) name values.Other (shift h b _ _ (Some Text) t.before (λ rest. refl)) (t.is, char, sits.is) text.new refl (λ rest. refl)))
 sits_on (Fields h row) s1 b x p e sits =
     elim (either (has 125 x) (Ok (Wants 91 (StructSize h row))) (wanted p (word_in x) (on_type p (AtItem h row) (FieldUnsigned h row p))) (Ok s1) e) [
       | inl t ↦ lands_at (Wants 91 (StructSize h row)) s1 b x (sign 125) (sign_is 125 x t.0) t.1 (shift_struct h row (b ++ sign 125 ∷ []) _ _ (sign 91) (shift_struct h row b _ (λ rest. sign 125 ∷ rest) (sign 125) sits (λ rest. refl)) (λ rest. refl))
       | inr f ↦
           (let w = wanted_is p (word_in x) (on_type p (AtItem h row) (FieldUnsigned h row p)) s1 f.1 in
           subst (λ z. Sits s1 (b ++ z ∷ [])) (sym (word_is x w.0 w.1)) (
-              elim (type_is p (AtItem h row) (FieldUnsigned h row p) w.0 s1 w.2) [
-                | inl u ↦ lands_at (FieldUnsigned h row p) s1 b (word w.0) (word (codes "unsigned")) (ap (λ n. word n) u.0) u.1 (shift_struct h row b _ _ (word (codes "unsigned")) sits (λ rest. refl))
-                | inr k ↦ lands (AtItem h row k.0) s1 (b ++ word w.0 ∷ []) k.2 (record { first = row; type = record { unsigned = false; word = w.0; kind = k.0 }; is = k.1; kind_is = refl; earlier = []; are = tt; fit = tt; say = refl; struct = shift_struct h row b _ _ (word w.0) sits (λ rest. refl) })
-              ]))
+          elim (type_is p (AtItem h row) (FieldUnsigned h row p) w.0 s1 w.2) [
+            | inl u ↦ lands_at (FieldUnsigned h row p) s1 b (word w.0) (word (codes "unsigned")) (ap (λ n. word n) u.0) u.1 (shift_struct h row b _ _ (word (codes "unsigned")) sits (λ rest. refl))
+            | inr k ↦ lands (AtItem h row k.0) s1 (b ++ word w.0 ∷ []) k.2 (record { first = row; type = record { unsigned = false; word = w.0; kind = k.0 }; is = k.1; kind_is = refl; earlier = []; are = tt; fit = tt; say = refl; struct = shift_struct h row b _ _ (word w.0) sits (λ rest. refl) })
+          ]))
     ]
 sits_on (FieldUnsigned h row q) s1 b x p e sits =
     (let k = or_halt_is faults.UnknownType q (option_and_then unsigned_type x) (λ kind. Ok (AtItem h row kind)) s1 e in
@@ -495,8 +505,14 @@ sits_on (Length h row kind name q) s1 b x p e sits =
     let w = or_halt_is faults.TooWide q (widened row kind name n.0 true) (λ wider. Ok (Wants 93 (ItemEnd h wider kind))) s1 n.2 in
     let wide = wide_is row kind name n.0 true w.0 w.1 in
     lands_at (Wants 93 (ItemEnd h w.0 kind)) s1 b x (count n.0) (l.1 ∙ len.0) w.2
-        (record { narrower = row; item = record { name = name; length = Some n.0 }; is = len.1; fits = record { new = sits.new; room = sits.room; narrow = wide.0 }; say = wide.1;
-          line = shift_line h row kind (b ++ count n.0 ∷ []) _ _ (sign 93) (shift_line h row kind b _ (λ rest. word name ∷ sign 91 ∷ count n.0 ∷ rest) (count n.0) sits.line (λ rest. refl)) (λ rest. refl) }))
+    (record {
+      narrower = row;
+      item = record { name = name; length = Some n.0 };
+      is = len.1;
+      fits = record { new = sits.new; room = sits.room; narrow = wide.0 };
+      say = wide.1;
+      line = shift_line h row kind (b ++ count n.0 ∷ []) _ _ (sign 93) (shift_line h row kind b _ (λ rest. word name ∷ sign 91 ∷ count n.0 ∷ rest) (count n.0) sits.line (λ rest. refl)) (λ rest. refl);
+    }))
 sits_on (ItemEnd h row kind) s1 b x p e sits = item_end_sits h row kind b x p s1 e sits
 sits_on (StructSize h row) s1 b x p e sits =
     elim (either (has 93 x) (Ok (closed h row None)) (wanted p (option_and_then size_of x) (λ n. Ok (Wants 93 (closed h row (Some n))))) (Ok s1) e) [
@@ -506,10 +522,10 @@ sits_on (StructSize h row) s1 b x p e sits =
           let l = token_is size_of x n.0 n.1 in
           let size = size_is l.0 n.0 l.2 in
           lands_at (Wants 93 (closed h row (Some n.0))) s1 b x (count n.0) (l.1 ∙ size.0) n.2
-              (closed_sits h row (Some n.0) ((b ++ count n.0 ∷ []) ++ sign 93 ∷ []) size.1 (shift_struct h row (b ++ count n.0 ∷ []) _ _ (sign 93) (shift_struct h row b _ (λ rest. sign 125 ∷ sign 91 ∷ count n.0 ∷ rest) (count n.0) sits (λ rest. refl)) (λ rest. refl))))
+          (closed_sits h row (Some n.0) ((b ++ count n.0 ∷ []) ++ sign 93 ∷ []) size.1 (shift_struct h row (b ++ count n.0 ∷ []) _ _ (sign 93) (shift_struct h row b _ (λ rest. sign 125 ∷ sign 91 ∷ count n.0 ∷ rest) (count n.0) sits (λ rest. refl)) (λ rest. refl))))
     ]
   where
     closed_sits : (h : Header) (row : Row) (size : Option ℕ) (b : Spelling) → IsSize size → InStruct h row b (λ rest. sign 125 ∷ sign 91 ∷ spell_size size (sign 93 ∷ rest)) → Before (with_struct h (record { row = row; size = size })) (b ++ sign 59 ∷ []) (λ rest. rest)
     closed_sits h row size b is s =
         subst (λ r. Before (with_struct h (record { row = r; size = size })) (b ++ sign 59 ∷ []) (λ rest. rest)) s.say
-            (whole h (b ++ sign 59 ∷ []) (λ rest. spell (Struct s.lines size) rest) (Struct s.lines size) (shift h b _ _ (sign 59) s.before (λ rest. refl)) (s.are, is) (s.none, s.fit) (λ rest. refl))
+        (whole h (b ++ sign 59 ∷ []) (λ rest. spell (Struct s.lines size) rest) (Struct s.lines size) (shift h b _ _ (sign 59) s.before (λ rest. refl)) (s.are, is) (s.none, s.fit) (λ rest. refl))

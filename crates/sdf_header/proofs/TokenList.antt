@@ -1,11 +1,10 @@
 -- The next token of a text is the first of its list of tokens.
 use Rattle.std.proofs.Common.{◌≡◌, ℕ, zero, suc, ◌+◌, ◌-◌, ◌<◌, ◌≤◌, Bool, true, false, cond, ◌&&◌, ◌||◌, ◌==◌, ◌⊎◌, inl, inr, List, [], ◌∷◌, length, take, drop, Option, Some, None, Result, Ok, Err, ℤ, refl, sym, ap, subst, ◌∙◌, arith, length-drop}
-use Rattle.std.specs.Prelude.{option_and_then, if◌then◌else◌, nat_le}
+use Rattle.std.specs.Prelude.{option_and_then, nat_le}
 use Rattle.std.specs.List.{prefix_len}
 use Rattle.std.specs.Int.{is_in_range}
 use Rattle.std.specs.Char.{is_ascii_digit, is_ascii_hexdigit}
 use Rattle.std.proofs.lemmas.Bool.{cases_Bool}
-use Rattle.std.proofs.lemmas.List.Folds.{length-prefix_len}
 use Rattle.std.proofs.Math.Seq.{drop-nil}
 use Rattle.sdf_header.specs.declared.fault.Fault.{Fault}
 use Rattle.sdf_header.specs.declared.fault.FaultKind.TheVariants.{Syntax}
@@ -180,10 +179,10 @@ number_tail bytes x h =
     let s = taken (λ size. with_sign negative size.0 >>=o λ value. cond (goes_on_number size.1) None (Some (value, size.1))) (cond (is_hexadecimal body) (hexadecimal (drop 2 body)) (decimal body)) x h in
     let v = taken (λ value. cond (goes_on_number s.0.1) None (Some (value, s.0.1))) (with_sign negative s.0.0) x s.2 in
     let w : Within s.0.1 bytes =
-        elim (either (is_hexadecimal body) (hexadecimal (drop 2 body)) (decimal body) (Some s.0) s.1) [
-          | inl b ↦ tail_within _ _ _ (within_tail _ _ _ (hexadecimal_tail (drop 2 body) s.0 b.1) (record { by = 1; is = refl })) (sign_tail bytes)
-          | inr b ↦ tail_within _ _ _ (decimal_tail body s.0 b.1) (sign_tail bytes)
-        ] in
+    elim (either (is_hexadecimal body) (hexadecimal (drop 2 body)) (decimal body) (Some s.0) s.1) [
+      | inl b ↦ tail_within _ _ _ (within_tail _ _ _ (hexadecimal_tail (drop 2 body) s.0 b.1) (record { by = 1; is = refl })) (sign_tail bytes)
+      | inr b ↦ tail_within _ _ _ (decimal_tail body s.0 b.1) (sign_tail bytes)
+    ] in
     elim (either (goes_on_number s.0.1) None (Some (v.0, s.0.1)) (Some x) v.2) [
       | inl b ↦ none_some x b.1
       | inr b ↦ subst (λ (y : Option ℤ × List ℕ). Within y.1 bytes) (some_is _ _ b.1) w

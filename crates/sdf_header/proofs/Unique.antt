@@ -1,14 +1,14 @@
 -- One token at most stops, and it decides one fault.
-use Rattle.std.proofs.Common.{◌≡◌, ℕ, zero, suc, ◌+◌, ◌<◌, ◌≤◌, Bool, true, false, ◌⊎◌, inl, inr, List, [], ◌∷◌, ◌++◌, length, Option, Some, None, Result, Ok, Err, refl, sym, ap, subst, ◌∙◌, append_assoc, arith}
+use Rattle.std.proofs.Common.{◌≡◌, ℕ, inl, inr, List, [], ◌∷◌, ◌++◌, Option, refl, sym, ap, subst, ◌∙◌, append_assoc}
 use Rattle.std.specs.Prelude.{codes}
 use Rattle.std.proofs.lemmas.List.{append-nil}
 use Rattle.sdf_header.specs.declared.fault.FaultKind.{FaultKind}
 use Rattle.sdf_header.specs.declared.fault.FaultKind.TheVariants as faults
-use Rattle.sdf_header.specs.Tokens.{Lexeme, End}
+use Rattle.sdf_header.specs.Tokens.{Lexeme}
 use Rattle.sdf_header.specs.TokenList.{Token, tokens}
 use Rattle.sdf_header.specs.Statements.{Header}
-use Rattle.sdf_header.specs.Grammar.{Spelling, spelling, word, spell_each, Spells}
-use Rattle.sdf_header.specs.Faults.{Continues, Stops, TypeWanted, BehindUnsigned, IsTypeWord, IsNoType, Decides, FaultAt, IsHeader}
+use Rattle.sdf_header.specs.Grammar.{Spelling, spelling, word}
+use Rattle.sdf_header.specs.Faults.{Continues, Stops, TypeWanted, BehindUnsigned, IsTypeWord, Decides, FaultAt, IsHeader}
 use Rattle.sdf_header.specs.Judgement.{IsOfSense}
 use Rattle.sdf_header.proofs.Faults.{spelling-append, front_continues}
 
@@ -77,7 +77,9 @@ unsigned_way all before t (u ∷ after) place y more is at x wanted behind stops
     let same : u.lexeme ≡ y = cc in
     record {
       stop = record {
-        before = before ++ t ∷ []; token = u; after = after;
+        before = before ++ t ∷ [];
+        token = u;
+        after = after;
         is = is ∙ sym (append_assoc before (t ∷ []) (u ∷ after));
         stops = subst (λ z. Stops z u.lexeme) (sym front) (subst (λ z. Stops (spelling before ++ t.lexeme ∷ []) z) (sym same) stops);
       };

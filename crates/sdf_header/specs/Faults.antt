@@ -1,5 +1,5 @@
 -- The token that decides a fault of the text, by the tokens before it and behind it.
-use Rattle.std.specs.Prelude.{◌≡◌, ℕ, ◌+◌, ◌*◌, ◌-◌, Bool, true, false, List, [], ◌∷◌, ◌++◌, ◌⊎◌, length, Option, Some, None, is_some, nat_lt, ◌==◌, codes}
+use Rattle.std.specs.Prelude.{◌≡◌, ℕ, ◌+◌, ◌*◌, true, false, List, [], ◌∷◌, ◌++◌, ◌⊎◌, length, Option, Some, is_some, nat_lt, ◌==◌, codes}
 use Rattle.hot_model.specs.Limits.{max_columns, max_row_bytes}
 use Rattle.sdf_header.specs.declared.fault.FaultKind.{FaultKind}
 use Rattle.sdf_header.specs.declared.fault.FaultKind.TheVariants as faults

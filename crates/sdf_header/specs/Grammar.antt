@@ -1,6 +1,6 @@
 -- The statements of a header, and the tokens that spell them. A spelling is the list of the tokens, where a
 -- piece of no form is None; each part of a header is spelled in front of what follows it.
-use Rattle.std.specs.Prelude.{◌≡◌, ℕ, ◌+◌, ◌*◌, ◌<◌, ◌≤◌, ◌^◌, Bool, true, false, ◌&&◌, List, [], ◌∷◌, ◌++◌, length, map, Option, Some, None, is_some, ℤ, pos, nat_lt, ◌==◌, if◌then◌else◌, codes}
+use Rattle.std.specs.Prelude.{◌≡◌, ℕ, ◌+◌, ◌*◌, ◌<◌, ◌≤◌, ◌^◌, Bool, true, false, ◌&&◌, List, [], ◌∷◌, ◌++◌, length, map, Option, Some, None, is_some, pos, nat_lt, ◌==◌, if◌then◌else◌, codes}
 use Rattle.std.specs.Bool.{beq}
 use Rattle.std.specs.Str.{bytes_eq}
 use Rattle.hot_model.specs.Limits.{max_columns, max_row_bytes}

@@ -7,7 +7,7 @@ use Rattle.sdf_header.specs.declared.fault.FaultKind.TheVariants as kinds
 use Rattle.sdf_header.specs.Layouts.{LayoutValue}
 use Rattle.sdf_header.specs.Statements.{Header}
 use Rattle.sdf_header.specs.Faults.{FaultAt, IsHeader}
-use Rattle.sdf_header.specs.Extent.{Extent, Faulty, Ends, Open, extent}
+use Rattle.sdf_header.specs.Extent.{Faulty, Ends, Open, extent}
 use Rattle.sdf_header.specs.Verdict.{layout_of, unended, verdict}
 
 -- the text in front of the ending line is a header of fitting statements, and what they say gives this
