@@ -20,6 +20,7 @@ use Rattle.sdf_header.specs.Statements.{Header, with_param, with_struct, value_o
 use Rattle.sdf_header.specs.Judgement.{IsOfSense}
 use Rattle.sdf_header.specs.Grammar.{Spelling, spelling, word, sign, count, TypeName, types, type_in, IsType, Item, FieldLine, Statement, Parameter, Constant, Label, Struct, IsSize, IsLength, AreItems, AreLines, IsStatement, AreStatements, spell_type, spell_size, spell_length, spell_item, spell_earlier, spell_line, spell_lines, spell, spell_each, values_of, and_item, ItemFits, and_items, ItemsFit, and_line, and_lines, LinesFit, and_statement, Fits, and_statements, AllFit}
 use Rattle.sdf_header.proofs.Machine.{Halt, halt, State, Done, Start, Wants, ParamName, ParamValue, Unsigned, Typed, Named, NumberFor, TextSize, TextValue, Fields, FieldUnsigned, Item as AtItem, ItemName, Length, ItemEnd, StructSize, wanted, has, or_halt, given, closed, on_type, on_item_end, step, and_then, goes}
+use Rattle.sdf_header.proofs.Choices.{true_false, none_some}
 
 abbrev pub HaltsBySense : Result State Halt → Type 0
 HaltsBySense (Ok s) = ⊥
@@ -85,9 +86,6 @@ halts_at s ts x l k sense e h =
     let is : step s f.0 ≡ halt k w.0 = subst (λ y. step s (record { lexeme = y; place = f.0.place }) ≡ halt k w.0) (sym f.3) w.1 in
     subst HaltsBySense (sym (ap (goes s) f.2 ∙ ap (λ r. and_then r (λ s. goes s f.1)) is)) sense
 
-true_false : {A : Type 0} (b : Bool) → b ≡ true → b ≡ false → A
-true_false b t f = absurd cc
-
 -- one token, unless a condition is broken
 one_or : (b : Bool) (s s1 : State) (ts : List Token) (x : Option Lexeme) (l : Spelling) (k : FaultKind) → IsOfSense k → spelling ts ≡ x ∷ l
     → (b ≡ true → (place : ℕ) → (q : ℕ) × (step s (record { lexeme = x; place = place }) ≡ halt k q)) → (b ≡ false → (place : ℕ) → step s (record { lexeme = x; place = place }) ≡ Ok s1) → Leads s ts s1 l (b ≡ false)
@@ -110,9 +108,6 @@ lead_then s s1 s2 ts l1 l2 p (inr halts) h = inr halts
 lead_then s s1 s2 ts l1 l2 p (inl g) h = inl (on s s1 s2 ts l1 l2 g h)
 
 -- ---- types
-
-none_some : {B A : Type 0} (x : A) → ◌≡◌ {A = Option A} None (Some x) → B
-none_some x e = absurd cc
 
 no_keyword : (w other : List ℕ) (kind : Kind) → type_in types false other ≡ None → type_in types false w ≡ Some kind → bytes_eq w other ≡ false
 no_keyword w other kind none yes_is =

@@ -1,3 +1,4 @@
+pub mod Choices
 pub mod Numbers
 pub mod Blanks
 pub mod Items
@@ -14,6 +15,7 @@ pub mod Shorter
 pub mod Leads
 pub mod Sits
 pub mod Faults
+pub mod Kept
 pub mod Decided
 pub mod Judgement
 pub mod Converse

@@ -18,6 +18,7 @@ use Rattle.sdf_header.specs.Fields.{Row, has_field, length_of, no_fields}
 use Rattle.sdf_header.specs.Statements.{Header, with_param, with_struct, nothing_given, value_of, number_for}
 use Rattle.sdf_header.specs.Grammar.{Spelling, word, sign, count, TypeName, types, type_in, IsType, Item, FieldLine, Statement, Parameter, Constant, Label, Struct, IsSize, IsLength, AreItems, AreLines, IsStatement, AreStatements, spell_type, spell_size, spell_item, spell_earlier, spell_line, spell_lines, spell, spell_each, and_item, ItemFits, and_items, ItemsFit, and_line, and_lines, LinesFit, and_statement, Fits, and_statements, AllFit, said}
 use Rattle.sdf_header.proofs.Machine.{Halt, halt, State, Done, Start, Wants, ParamName, ParamValue, Unsigned, Typed, Named, NumberFor, TextSize, TextValue, Fields, FieldUnsigned, Item as AtItem, ItemName, Length, ItemEnd, StructSize, wanted, has, ends, word_in, widened, or_halt, given, closed, on_type, on_statement, on_name, on_item, on_item_end, text_in, step}
+use Rattle.sdf_header.proofs.Choices.{either, none_some, some_is, and_true}
 
 -- ---- one more at the end
 
@@ -180,18 +181,8 @@ whole h b f s p is fits e = record {
 
 -- ---- what the token is
 
-some_is : {A : Type 0} (x y : A) → ◌≡◌ {A = Option A} (Some x) (Some y) → x ≡ y
-some_is x y e = cc
-
-none_some : {B A : Type 0} (x : A) → ◌≡◌ {A = Option A} None (Some x) → B
-none_some x e = absurd cc
-
 err_ok : {B : Type 0} (k : FaultKind) (p : ℕ) (s : State) → halt k p ≡ Ok s → B
 err_ok k p s e = absurd cc
-
-pub either : {A : Type 0} (b : Bool) (x y z : A) → cond b x y ≡ z → ((b ≡ true) × (x ≡ z)) ⊎ ((b ≡ false) × (y ≡ z))
-either true x y z e = inl (refl, e)
-either false x y z e = inr (refl, e)
 
 pub wanted_is : {A : Type 0} (p : ℕ) (o : Option A) (f : A → Result State Halt) (s : State) → wanted p o f ≡ Ok s → (a : A) × (o ≡ Some a) × (f a ≡ Ok s)
 wanted_is p None f s e = err_ok faults.Syntax p s e
@@ -257,17 +248,13 @@ size_is Text n e = none_some n e
 size_is (Sign t) n e = none_some n e
 size_is End n e = none_some n e
 
-and_is : (a b : Bool) → (a && b) ≡ true → (a ≡ true) × (b ≡ true)
-and_is true b e = (refl, e)
-and_is false b e = absurd cc
-
 pub length_is : (l : Lexeme) (n : ℕ) → length_of l ≡ Some n → (Some l ≡ count n) × ((1 ≤ n) × (n ≤ max_array_length))
 length_is (Word w) n e = none_some n e
 length_is (Number None) n e = none_some n e
 length_is (Number (Some (negsuc m))) n e = none_some n e
 length_is (Number (Some (pos m))) n e =
     elim (either (nat_le 1 m && nat_le m max_array_length) (Some m) None (Some n) e) [
-      | inl h ↦ (let both = and_is (nat_le 1 m) (nat_le m max_array_length) h.0 in let same = some_is m n h.1 in
+      | inl h ↦ (let both = and_true (nat_le 1 m) (nat_le m max_array_length) h.0 in let same = some_is m n h.1 in
           (ap (λ k. count k) same, subst (λ k. (1 ≤ k) × (k ≤ max_array_length)) same (leb-true 1 m both.0, leb-true m max_array_length both.1)))
       | inr h ↦ none_some n h.1
     ]
@@ -426,7 +413,7 @@ sits_on (Named h kind name) s1 b x p e sits =
       | inr f ↦
           elim (either (has 91 x && is_char kind) (Ok (TextSize h name)) (halt faults.Syntax p) (Ok s1) f.1) [
             | inl t ↦
-                (let both = and_is (has 91 x) (is_char kind) t.0 in
+                (let both = and_true (has 91 x) (is_char kind) t.0 in
                 lands_at (TextSize h name) s1 b x (sign 91) (sign_is 91 x both.0) t.1 (record { new = sits.0; kind = kind; char = both.1; type = shift_type h kind b _ _ (sign 91) sits.1 (λ rest. refl) }))
             | inr g ↦ err_ok faults.Syntax p s1 g.1
           ]

@@ -1,5 +1,5 @@
 -- The next token of a text is the first of its list of tokens.
-use Rattle.std.proofs.Common.{◌≡◌, ℕ, zero, suc, ◌+◌, ◌-◌, ◌<◌, ◌≤◌, Bool, true, false, cond, ◌&&◌, ◌||◌, ◌==◌, ◌⊎◌, inl, inr, List, [], ◌∷◌, length, take, drop, Option, Some, None, Result, Ok, Err, ℤ, refl, sym, ap, subst, ◌∙◌, arith, length-drop}
+use Rattle.std.proofs.Common.{◌≡◌, ℕ, zero, suc, ◌+◌, ◌-◌, ◌<◌, ◌≤◌, Bool, true, false, cond, ◌&&◌, ◌||◌, ◌==◌, inl, inr, List, [], ◌∷◌, length, take, drop, Option, Some, None, Result, Ok, Err, ℤ, refl, sym, ap, subst, ◌∙◌, arith, length-drop}
 use Rattle.std.specs.Prelude.{option_and_then, nat_le}
 use Rattle.std.specs.List.{prefix_len}
 use Rattle.std.specs.Int.{is_in_range}
@@ -12,6 +12,7 @@ use Rattle.sdf_header.specs.Limits.{max_text_bytes}
 use Rattle.sdf_header.specs.Numbers.{begins_with, goes_on_word, in_line, in_text, run, is_empty, magnitude, hexadecimal, behind_sign, behind_exponent, behind_mantissa, is_fraction, decimal, is_hexadecimal, goes_on_number, with_sign, number, ◌>>=◌ as ◌>>=o◌}
 use Rattle.sdf_header.specs.Tokens.{Lexeme, Word, Number, Text, Sign, End, Lex, is_blank, begins_word, is_sign, behind_close, comment_end, blank_at, or_here, past_blanks, behind_text, text_lex, number_lex, token_at, next, syntax_at, ◌>>=◌}
 use Rattle.sdf_header.specs.TokenList.{Token, token, Piece, Blank, Whole, NoForm, token_piece, piece, piece_at, tokens_behind}
+use Rattle.sdf_header.proofs.Choices.{either, none_some, some_is}
 
 -- what is left behind a piece
 pub record Tail (rest bytes : List ℕ) : Type 0 where
@@ -55,12 +56,6 @@ behind size rest bytes t =
 
 -- ---- what each piece leaves is behind its first byte
 
-none_some : {A B : Type 0} (x : A) → ◌≡◌ {A = Option A} None (Some x) → B
-none_some x e = absurd cc
-
-some_is : {A : Type 0} (x y : A) → ◌≡◌ {A = Option A} (Some x) (Some y) → x ≡ y
-some_is x y e = cc
-
 ok_is : {A : Type 0} (x y : A) → ◌≡◌ {A = Result A Fault} (Ok x) (Ok y) → x ≡ y
 ok_is x y e = cc
 
@@ -77,11 +72,6 @@ ok_err f x e = absurd cc
 taken : {A B : Type 0} (f : A → Option B) (o : Option A) (y : B) → option_and_then f o ≡ Some y → (x : A) × (o ≡ Some x) × (f x ≡ Some y)
 taken f None y e = none_some y e
 taken f (Some x) y e = (x, refl, e)
-
--- a choice that gives something
-either : {A : Type 0} (b : Bool) (x y z : A) → cond b x y ≡ z → ((b ≡ true) × (x ≡ z)) ⊎ ((b ≡ false) × (y ≡ z))
-either true x y z e = inl (refl, e)
-either false x y z e = inr (refl, e)
 
 -- what is left is a tail, and so is what is behind a byte more
 record Within (rest bytes : List ℕ) : Type 0 where
