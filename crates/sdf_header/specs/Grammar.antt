@@ -16,6 +16,7 @@ use Rattle.sdf_header.specs.Types.{bytes_of, is_char}
 use Rattle.sdf_header.specs.Fields.{Row, has_field, no_fields}
 use Rattle.sdf_header.specs.Statements.{Header, with_param, with_struct, nothing_given, value_of, number_for}
 
+-- tokens without their places; None is a piece of no form
 abbrev pub Spelling : Type 0
 Spelling = List (Option Lexeme)
 
@@ -23,12 +24,15 @@ Spelling = List (Option Lexeme)
 abbrev pub spelling : List Token → Spelling
 spelling tokens = map (λ (t : Token). t.lexeme) tokens
 
+-- a word
 abbrev pub word : List ℕ → Option Lexeme
 word w = Some (Word w)
 
+-- a sign, by its byte
 abbrev pub sign : ℕ → Option Lexeme
 sign s = Some (Sign s)
 
+-- a whole number of 0 or more
 abbrev pub count : ℕ → Option Lexeme
 count n = Some (Number (Some (pos n)))
 
@@ -110,6 +114,7 @@ abbrev pub AreItems : List Item → Type 0
 AreItems [] = Unit {0}
 AreItems (i ∷ items) = IsLength i.length × AreItems items
 
+-- each field line has a type and good lengths
 abbrev pub AreLines : List FieldLine → Type 0
 AreLines [] = Unit {0}
 AreLines (l ∷ lines) = (IsType l.type × AreItems l.earlier × IsLength l.last.length) × AreLines lines
@@ -122,23 +127,28 @@ IsStatement (Constant type name token value) = IsType type × (number_for type.k
 IsStatement (Label type name size) = IsType type × (is_char type.kind ≡ true) × IsSize size
 IsStatement (Struct lines size) = AreLines lines × IsSize size
 
+-- each of them is a statement
 abbrev pub AreStatements : List Statement → Type 0
 AreStatements [] = Unit {0}
 AreStatements (s ∷ ss) = IsStatement s × AreStatements ss
 
 -- ---- how they are spelled: { is 123, } is 125, [ is 91, ] is 93, ; is 59, = is 61 and , is 44
 
+-- the words of a type
 abbrev pub spell_type : TypeName → Spelling → Spelling
 spell_type t rest = if t.unsigned then word (codes "unsigned") ∷ word t.word ∷ rest else word t.word ∷ rest
 
+-- a size, or nothing
 abbrev pub spell_size : Option ℕ → Spelling → Spelling
 spell_size None rest = rest
 spell_size (Some n) rest = count n ∷ rest
 
+-- a length in brackets, or nothing
 abbrev pub spell_length : Option ℕ → Spelling → Spelling
 spell_length None rest = rest
 spell_length (Some n) rest = sign 91 ∷ count n ∷ sign 93 ∷ rest
 
+-- a name, and its length if it has one
 abbrev pub spell_item : Item → Spelling → Spelling
 spell_item i rest = word i.name ∷ spell_length i.length rest
 
@@ -147,13 +157,16 @@ abbrev pub spell_earlier : List Item → Spelling → Spelling
 spell_earlier [] rest = rest
 spell_earlier (i ∷ items) rest = spell_item i (sign 44 ∷ spell_earlier items rest)
 
+-- a type, its items, and the semicolon
 abbrev pub spell_line : FieldLine → Spelling → Spelling
 spell_line l rest = spell_type l.type (spell_earlier l.earlier (spell_item l.last (sign 59 ∷ rest)))
 
+-- one field line behind the other
 abbrev pub spell_lines : List FieldLine → Spelling → Spelling
 spell_lines [] rest = rest
 spell_lines (l ∷ lines) rest = spell_line l (spell_lines lines rest)
 
+-- the tokens of a statement, by its form
 abbrev pub spell : Statement → Spelling → Spelling
 spell (Parameter name token value) rest = word (codes "parameter") ∷ word name ∷ sign 61 ∷ Some token ∷ sign 59 ∷ rest
 spell (Constant type name token value) rest = spell_type type (word name ∷ sign 61 ∷ Some token ∷ sign 59 ∷ rest)
@@ -190,21 +203,26 @@ pub record ItemFits (kind : Kind) (row : Row) (i : Item) : Type 0 where
   pub room : (length row.fields == max_columns) ≡ false
   pub narrow : nat_lt max_row_bytes (row.width + bytes_of kind * values_of i.length) ≡ false
 
+-- the row with these columns more
 abbrev pub and_items : Kind → Row → List Item → Row
 and_items kind row [] = row
 and_items kind row (i ∷ items) = and_items kind (and_item kind row i) items
 
+-- each column fits the row of those before it
 abbrev pub ItemsFit : Kind → Row → List Item → Type 0
 ItemsFit kind row [] = Unit {0}
 ItemsFit kind row (i ∷ items) = ItemFits kind row i × ItemsFit kind (and_item kind row i) items
 
+-- the row with the columns of one more field line
 abbrev pub and_line : Row → FieldLine → Row
 and_line row l = and_item l.type.kind (and_items l.type.kind row l.earlier) l.last
 
+-- the row with the columns of these field lines more
 abbrev pub and_lines : Row → List FieldLine → Row
 and_lines row [] = row
 and_lines row (l ∷ lines) = and_lines (and_line row l) lines
 
+-- each field line fits the row of those before it
 abbrev pub LinesFit : Row → List FieldLine → Type 0
 LinesFit row [] = Unit {0}
 LinesFit row (l ∷ lines) = (ItemsFit l.type.kind row l.earlier × ItemFits l.type.kind (and_items l.type.kind row l.earlier) l.last) × LinesFit (and_line row l) lines
@@ -223,6 +241,7 @@ Fits h (Constant type name token value) = is_some (h.given name) ≡ false
 Fits h (Label type name size) = is_some (h.given name) ≡ false
 Fits h (Struct lines size) = (is_some h.table ≡ false) × LinesFit no_fields lines
 
+-- what a header says with these statements more
 abbrev pub and_statements : Header → List Statement → Header
 and_statements h [] = h
 and_statements h (s ∷ ss) = and_statements (and_statement h s) ss
