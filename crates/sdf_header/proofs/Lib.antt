@@ -1,3 +1,4 @@
+pub mod Choices
 pub mod Numbers
 pub mod Blanks
 pub mod Items
@@ -7,3 +8,15 @@ pub mod Advances
 pub mod Bytes
 pub mod Known
 pub mod MadeHeader
+pub mod TokenList
+pub mod Machine
+pub mod Simulation
+pub mod Shorter
+pub mod Leads
+pub mod Sits
+pub mod Faults
+pub mod Kept
+pub mod Decided
+pub mod Judgement
+pub mod Converse
+pub mod Unique

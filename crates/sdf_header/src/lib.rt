@@ -6,6 +6,7 @@ mod document;
 mod extent;
 mod fault;
 mod generated;
+mod grammar_laws;
 mod header_fault;
 mod kind;
 mod layout;
@@ -20,6 +21,7 @@ mod types;
 mod verdict;
 
 pub use generated::generated_header_reads;
+pub use grammar_laws::header_is_statements;
 pub use header_fault::{ColName, HeaderFault, ParamName};
 pub use kind::Whole;
 pub use layout::{Col, HeaderError, Layout, Order};
