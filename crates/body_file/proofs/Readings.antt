@@ -22,10 +22,7 @@ all_taken (Some all) (Some rest) (Some more) t p q e = sym (p ∙ ap (λ l. t ++
 -- the last read gave this piece
 pub prompt_more : (input : Reading) (reader : BodyReader) (bytes piece : List ℕ) → HasTaken reader bytes → taken input ≡ bytes ++ piece → length piece ≤ piece_bytes → IsPrompt input
 prompt_more input reader bytes piece t e few =
-    let short = in_time reader bytes t in
-    let size = ap (λ (x : List ℕ). length x) e in
-    let sum = length-append bytes piece in
-    record { front = bytes; last = piece; all = e; one_read = few; undecided = undecided reader bytes t; bounded = omega (arith, short, size, sum, few) }
+    record { front = bytes; last = piece; all = e; one_read = few; undecided = undecided reader bytes t; early = in_time reader bytes t }
 
 -- it gave nothing
 pub prompt_now : (input : Reading) (reader : BodyReader) (bytes : List ℕ) → HasTaken reader bytes → taken input ≡ bytes → IsPrompt input
@@ -36,9 +33,7 @@ pub nothing_undecided : decided false [] ≡ None
 nothing_undecided = open_undecided [] nothing_open
 
 pub prompt_begin : (input : Reading) → taken input ≡ [] → IsPrompt input
-prompt_begin input e =
-    let size = ap (λ (x : List ℕ). length x) e in
-    record { front = []; last = []; all = e; one_read = omega arith; undecided = nothing_undecided; bounded = omega (arith, size) }
+prompt_begin input e = record { front = []; last = []; all = e; one_read = omega arith; undecided = nothing_undecided; early = omega arith }
 
 -- what stops the reader stops the reading
 pub stopped_by : (input : Reading) (bytes : List ℕ) (at_end : Bool) (e : ReadError) → has_failed input ≡ false → has_ended input ≡ at_end → taken input ≡ bytes → Stops at_end bytes e → Stopped input e

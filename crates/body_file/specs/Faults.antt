@@ -38,7 +38,6 @@ row_error push.Memory = Memory
 -- the fault in an answer, where it has one
 abbrev pub fault_in : ReadError → Option FileFault
 fault_in (Refused fault) = Some fault
-fault_in Memory = None
 fault_in _ = None
 
 -- the fault of a file for which a row of it is refused

@@ -1,5 +1,5 @@
 -- What a body file holds, and how far one is read.
-use Rattle.std.specs.Prelude.{◌≡◌, ℕ, suc, ◌+◌, ◌*◌, ◌≤◌, true, false, List, ◌++◌, length, drop, None, Ok}
+use Rattle.std.specs.Prelude.{◌≡◌, ℕ, ◌+◌, ◌*◌, ◌<◌, ◌≤◌, true, false, List, ◌++◌, length, drop, None, Ok}
 use Rattle.hot_model.specs.Limits.{max_header_bytes, max_bodies, max_row_bytes}
 use Rattle.hot_io.specs.Reading.{Reading, taken, ended, has_ended, has_failed}
 use Rattle.sdf_header.specs.Layouts.{LayoutValue}
@@ -25,15 +25,14 @@ piece_bytes = 4096
 abbrev pub read_limit : ℕ
 read_limit = max_header_bytes + (max_bodies + 1) * max_row_bytes
 
--- The reading stopped once a fault was decided: the bytes before the last read decided none, and that read gave at most
--- one piece. So what was taken lies below the limit and one piece.
+-- All but one piece at most of the bytes taken decide no fault, and they are fewer than the limit.
 pub record IsPrompt (input : Reading) : Type 0 where
   pub front : List ℕ
   pub last : List ℕ
   pub all : taken input ≡ front ++ last
   pub one_read : length last ≤ piece_bytes
   pub undecided : decided false front ≡ None
-  pub bounded : suc (length (taken input)) ≤ read_limit + piece_bytes
+  pub early : length front < read_limit
 
 -- the bodies were read to the end of the file
 pub record ReadsBodies (input : Reading) (set : SetValue) : Type 0 where

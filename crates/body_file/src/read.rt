@@ -14,8 +14,8 @@ use std::alloc::Global;
 /// The bodies of the file of this name, which is read to its end, with the ident and the work weight of each, in the
 /// order of its rows.
 ///
-/// The file is a self-describing one (SDF), as the hashed oct-tree codes of Warren and Salmon read them: a header in words,
-/// and rows of numbers behind it. Places are in fine units, 2^29 to an edge of the cube that the header names. A file has
+/// The file is of this project's own profile, which is only after the self-describing files (SDF) of the N-body codes: a
+/// header in words, and rows of numbers behind it. Places are in fine units, 2^29 to an edge of the cube that the header names. A file has
 /// at most 262,144 rows, a mass is 1 to 4,194,304 in the file's own unit, a work weight 0 to 2^32 - 1, and an ident fits 64
 /// bits, signed or unsigned.
 ///
@@ -40,6 +40,8 @@ pub fn read_bodies<S: Source>(
         × Stands S.left S.is_open S.opens S.faults (S.file source.old name.now) source.old source.new input
         × IsPrompt input
         × MatchResult result (ReadsBodies input) (Stopped input) }
+    ensures files { S.file source.new ≡ S.file source.old }
+    ensures names { S.allows source.new ≡ S.allows source.old }
     ensures named { IfOk result (λ set. All Is64Bits set.idents) }
 {
     if source.open(name).is_err() {

@@ -1,11 +1,11 @@
 // One call of the program.
-ghost use Rattle.std.specs.Prelude.{◌≡◌, ◌<◌, ◌↔◌, ◌⊎◌, ℕ, List, [], true, false, IsOk, IsErr, IfSome, Some};
+ghost use Rattle.std.specs.Prelude.{◌≡◌, ◌<◌, ◌↔◌, ◌⊎◌, ℕ, List, [], true, false, IsOk, IsErr, IfSome, Some, ◌+◌, length};
 ghost use Rattle.std.specs.Io.KnownBytes.{Appends};
-ghost use Rattle.hot_io.specs.Reading.{Stands};
+ghost use Rattle.hot_io.specs.Reading.{Reading, Stands, taken};
 ghost use Rattle.hot_io.specs.Writing.{Gained};
 ghost use Rattle.body_set.specs.Sets.{SetValue};
 ghost use Rattle.body_file.specs.Faults.{decided};
-ghost use Rattle.body_file.specs.Files.{HasBodies};
+ghost use Rattle.body_file.specs.Files.{HasBodies, read_limit, piece_bytes};
 ghost use Rattle.hot.specs.Jobs.{job_of, file_named};
 ghost use Rattle.hot.specs.Endings.{Prints, TellsFault, TellsWords};
 ghost use Rattle.hot.specs.Call.{Run, IsAnswered};
@@ -84,8 +84,22 @@ pub fn hot_main<S: Source, O: Sink, E: Sink>(
     // The words are good, the source did not fail and the error sink took the line before status 3.
     ensures file_judged { result ≡ Status.Input → IsOk (job_of words.now) × (S.faults source.new ≡ 0) × (E.faults err.new ≡ 0) }
 
-    // One of the sinks failed before status 5.
+    // A sink failed before status 5.
     ensures write_fault { result ≡ Status.WriteFault → (0 < O.faults out.new) ⊎ (0 < E.faults err.new) }
+
+    // Where the output failed, the status is 5.
+    ensures output_failed { 0 < O.faults out.new → result ≡ Status.WriteFault }
+
+    // Where the error sink failed, the status is 5, or 6 at want of memory.
+    ensures error_failed { 0 < E.faults err.new → (result ≡ Status.WriteFault) ⊎ (result ≡ Status.Memory) }
+
+    // Words that give no run leave the source as it was.
+    ensures untouched { IsErr (job_of words.now) → source.new ≡ source.old }
+
+    // Of any source fewer bytes are taken than the limit and one piece.
+    ensures bounded { (input : Reading)
+        × Stands S.left S.is_open S.opens S.faults (S.file source.old (file_named words.now)) source.old source.new input
+        × (length (taken input) < read_limit + piece_bytes) }
 
     // The words are good and the source did not fail before status 6.
     ensures starved { result ≡ Status.Memory → IsOk (job_of words.now) × (S.faults source.new ≡ 0) }

@@ -106,6 +106,12 @@ fn check(rt: &impl Abort, ended: &Ended, status: Status, out: &[u8], err: &[u8])
 /// The words of most calls.
 const WORDS: &str = "forces --eps 1 --theta 0/1";
 
+/// The line for words that are accepted and not built yet.
+const LATER: &[u8] = b"hot: A0 words of a later stage\n";
+
+/// The line for a file that cannot be opened or read.
+const BROKEN: &[u8] = b"hot: read fault\n";
+
 /// What they print of the two bodies.
 const PULLS: &[u8] = b"# hot forces 1\n0 3145725 0 0\n1 -1048575 0 0\n# end 2\n";
 
@@ -425,25 +431,19 @@ fn refused_words(rt: HostRuntime) -> Result<(), Fail> {
             b"hot: A6 bad value 0 for --ranks\n".as_slice(),
         ),
         ("forces a b", b"hot: A7 extra word a\n".as_slice()),
-        ("split", b"hot: A0 words of a later stage\n".as_slice()),
-        ("make", b"hot: A0 words of a later stage\n".as_slice()),
-        ("sample", b"hot: A0 words of a later stage\n".as_slice()),
+        // a refusal of the grammar stands before the words of a later stage
         (
-            "forces --ranks 2",
-            b"hot: A0 words of a later stage\n".as_slice(),
+            "split --ranks 0",
+            b"hot: A6 bad value 0 for --ranks\n".as_slice(),
         ),
-        (
-            "forces --mail last",
-            b"hot: A0 words of a later stage\n".as_slice(),
-        ),
-        (
-            "forces --report",
-            b"hot: A0 words of a later stage\n".as_slice(),
-        ),
-        (
-            "forces --form sdf",
-            b"hot: A0 words of a later stage\n".as_slice(),
-        ),
+        ("forces --ranks 2 a b", b"hot: A7 extra word a\n".as_slice()),
+        ("split", LATER),
+        ("make", LATER),
+        ("sample", LATER),
+        ("forces --ranks 2", LATER),
+        ("forces --mail last", LATER),
+        ("forces --report", LATER),
+        ("forces --form sdf", LATER),
     ] {
         let ended = call(alloc, words, b"", AMPLE)?;
         check(&rt, &ended, Status::Words, b"", line);
@@ -494,12 +494,7 @@ fn the_file_that_the_words_name(rt: HostRuntime) -> Result<(), Fail> {
             b"".as_slice(),
             b"hot: H1 not an SDF file\n".as_slice(),
         ),
-        (
-            "forces nowhere",
-            Status::ReadFault,
-            b"".as_slice(),
-            b"hot: read fault\n".as_slice(),
-        ),
+        ("forces nowhere", Status::ReadFault, b"".as_slice(), BROKEN),
     ] {
         let ended = named(alloc, words)?;
         check(&rt, &ended, status, out, err);
@@ -519,24 +514,9 @@ fn a_source_that_stops(rt: HostRuntime) -> Result<(), Fail> {
     assert_eq!(rt; faulty.len(), 269);
     for (input, stop, status, err) in [
         // in the middle of row 7
-        (
-            whole.as_slice(),
-            193,
-            Status::ReadFault,
-            b"hot: read fault\n".as_slice(),
-        ),
-        (
-            whole.as_slice(),
-            223,
-            Status::ReadFault,
-            b"hot: read fault\n".as_slice(),
-        ),
-        (
-            whole.as_slice(),
-            0,
-            Status::ReadFault,
-            b"hot: read fault\n".as_slice(),
-        ),
+        (whole.as_slice(), 193, Status::ReadFault, BROKEN),
+        (whole.as_slice(), 223, Status::ReadFault, BROKEN),
+        (whole.as_slice(), 0, Status::ReadFault, BROKEN),
         // row 6 has no mass, and the source stops behind it, or within it
         (
             faulty.as_slice(),
@@ -544,12 +524,7 @@ fn a_source_that_stops(rt: HostRuntime) -> Result<(), Fail> {
             Status::Input,
             b"hot: B4 row 6 mass out of range\n".as_slice(),
         ),
-        (
-            faulty.as_slice(),
-            220,
-            Status::ReadFault,
-            b"hot: read fault\n".as_slice(),
-        ),
+        (faulty.as_slice(), 220, Status::ReadFault, BROKEN),
         // a header without a struct, and a source that stops behind it, or before its last byte
         (
             b"# SDF\n# SDF-EOH\nmore".as_slice(),
@@ -561,7 +536,7 @@ fn a_source_that_stops(rt: HostRuntime) -> Result<(), Fail> {
             b"# SDF\n# SDF-EOH\nmore".as_slice(),
             15,
             Status::ReadFault,
-            b"hot: read fault\n".as_slice(),
+            BROKEN,
         ),
     ] {
         let ended = call(alloc, WORDS, input, Limits { stop, ..AMPLE })?;

@@ -19,6 +19,8 @@ pieces-init g c = record {
   unfailed = search rules;
   opened = search rules;
   once = search rules;
+  files = search rules;
+  names = search rules;
   taken = ([], c.in_ok-reader.ensures, search rules);
 }
 
@@ -66,5 +68,7 @@ pieces-preserved g c =
       unfailed = search rules;
       opened = search rules;
       once = search rules;
+      files = search rules;
+      names = search rules;
       taken = (t.0 ++ piece, c.in_ok-reader-2.ensures t.0 t.1, Consumes-trans _ _ _ t.0 piece t.2 c.in-Ok.ensures.bytes.0);
     }

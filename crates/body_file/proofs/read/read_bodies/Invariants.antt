@@ -9,6 +9,8 @@ invariant-pieces g l = record {
   unfailed : g.S.Source.faults l.source ≡ 0;
   opened : g.S.Source.is_open l.source ≡ true;
   once : g.S.Source.opens l.source ≡ g.S.Source.opens l.fn.source + 1;
+  files : g.S.Source.file l.source ≡ g.S.Source.file l.fn.source;
+  names : g.S.Source.allows l.source ≡ g.S.Source.allows l.fn.source;
   taken : (bytes : List ℕ) × HasTaken l.reader bytes × Consumes (g.S.Source.file l.fn.source l.name) (g.S.Source.left l.source) bytes;
 }
 
