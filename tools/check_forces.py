@@ -4,8 +4,8 @@ Usage: tools/check [--program PATH | --try] [--cases N] [--seed S]
 
 The cases are those worked by hand, the files near the limits, and N random ones: body files of every layout, changed
 headers, spoilt rows, and lists of words. Output, error stream and status are compared. The program is the built one,
-which `./hot` builds where it is not built yet; with --try it is the same source without proof (`rt try`), over those
-cases that take no file and no odd word.
+which `./hot` builds where it is not built yet; with --try it is the same source without proof (`rt try`), over fewer
+cases, and only those that take no file and no odd word. N is 600, and 60 with --try.
 """
 
 import argparse
@@ -47,8 +47,15 @@ def random_case(rng):
 
 
 def limit_cases(rng):
-    """Files at the limit of rows, with a stated count and without, that have a fault or no work to do."""
+    """Streams that take no byte, and files about the limit of rows, with a stated count and without."""
     return [
+        Case("full", ["forces"], plain_file(rng, 3, "x,y,z", "3"), full="out"),
+        Case("full", ["forces"], plain_file(rng, 3, "x,y,z", "3"), full="err"),
+        Case("full", ["forces"], plain_file(rng, 3, "x,y,z", "4"), full="out"),
+        Case("full", ["forces"], plain_file(rng, 3, "x,y,z", "4"), full="err"),
+        Case("full", ["forces", "-h"], full="err"),
+        Case("full", ["force"], full="err"),
+        Case("full", ["make"], full="out"),
         Case("limit", ["forces"], plain_file(rng, 262145, "x,y,z", "")),
         Case("limit", ["forces"], plain_file(rng, 262145, "x,y,z", "")[:-1]),
         Case("limit", ["forces"], plain_file(rng, 262145, "x,y,z", "262144")),
@@ -64,8 +71,12 @@ def run(program, case):
         for name, data in case.files.items():
             with open(os.path.join(folder, name), "wb") as file:
                 file.write(data)
-        got = subprocess.run([program, *case.words], input=case.stdin, capture_output=True, check=False, cwd=folder)
-    return got.returncode, got.stdout, got.stderr
+        with open("/dev/full", "wb") as full:
+            to = {"stdout": subprocess.PIPE, "stderr": subprocess.PIPE}
+            if case.full:
+                to[f"std{case.full}"] = full
+            got = subprocess.run([program, *case.words], input=case.stdin, check=False, cwd=folder, **to)
+    return got.returncode, got.stdout or b"", got.stderr or b""
 
 
 def gather(rng, count):
@@ -77,7 +88,7 @@ def gather(rng, count):
             sys.exit(f"the second computation is wrong at {words}: {found} for {wanted}")
         pairs.append((Case("worked", words, data), wanted))
     cases = limit_cases(rng) + [random_case(rng) for _ in range(count)]
-    pairs += [(case, answer(case.words, case.stdin, case.files)) for case in cases]
+    pairs += [(case, answer(case.words, case.stdin, case.files, case.full)) for case in cases]
     pairs.append((Case("no text", ["forces", b"\xff"]), (2, b"", b"")))
     return pairs
 
@@ -104,12 +115,13 @@ def main():
     parser = argparse.ArgumentParser()
     parser.add_argument("--program")
     parser.add_argument("--try", dest="unproved", action="store_true")
-    parser.add_argument("--cases", type=int, default=600)
+    parser.add_argument("--cases", type=int)
     parser.add_argument("--seed", type=int, default=1)
     options = parser.parse_args()
+    count = options.cases or (60 if options.unproved else 600)
     begin = time.monotonic()
     print(f"seed {options.seed}", flush=True)
-    pairs = gather(random.Random(options.seed), options.cases)
+    pairs = gather(random.Random(options.seed), count)
     if options.unproved:
         pairs = [pair for pair in pairs if can_try(pair[0])]
         found = run_unproved(TOP, [case for case, _ in pairs])

@@ -9,3 +9,4 @@ class Case:
     words: list
     stdin: bytes = b""
     files: dict = field(default_factory=dict)
+    full: str = ""  # the stream, `out` or `err`, that takes no byte

@@ -122,7 +122,7 @@ def wide_header(rng):
     else:
         names.append(("char", f"wide[{rng.choice([1013, 1017, 1020])}]"))
         names.append(rng.choice([("int", "a"), ("double", "b"), ("char", "c[4"), ("char", "c[9"), ("double", "d@")]))
-        names.append(rng.choice([("int", "x"), ("double", "wide"), ("double", "d[0]"), ("double", "d["), ("char", "e")]))
+        names.append(rng.choice([("int", "x"), ("double", "wide"), ("double", "d[0]"), ("char", "d[1025]"), ("double", "d["), ("char", "e")]))
     if rng.random() < 0.3:
         rng.shuffle(names)
     return columns_text(rng, names) + rng.randbytes(1024)

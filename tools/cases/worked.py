@@ -31,7 +31,16 @@ def file_of(columns, *rows, count=None):
 
 
 def header_of(line):
-    return f"# SDF\n{line}# SDF-EOH\n".encode()
+    return f"# SDF\n{line}\n# SDF-EOH\n".encode() if line else b"# SDF\n# SDF-EOH\n"
+
+
+def refused_at(text, line):
+    """A header, and the text of its fault at the place that `^` marks in its line."""
+    return "forces", header_of(line.replace("^", "")), 3, f"{text} at {6 + line.index('^')}"
+
+
+def struct_of(fields):
+    return f"struct {{int8_t x, y, z; {fields}}}[];"
 
 
 def forces(*lines):
@@ -55,6 +64,19 @@ HEAVY = (1048576, 0, 0, 4194304)
 THREE = file_of(MASS, (0, 0, 0, 1), HEAVY, (1048577, 0, 0, 4194304))
 SAME = file_of(MASS, (0, 0, 0, 1), HEAVY, HEAVY)
 FLOAT_X = HEAD.format(columns="float x; int32_t y, z;", count=0).encode()
+
+NO_NUMBERS = "1.5.2 0x1.5 1_ 1e 1e+ . .e5 + - 0x 0xg 00x1 12a --1 +-1 1..2 -9223372036854775809".split()
+NUMBERS = "5. .5 5.e3 -.5E-2 0X1f +0x1E 1e99999 -9223372036854775808 18446744073709551615 0000000000000000000000001".split()
+BAD_PARAMETERS = [
+    "int cube_bits = 0;",
+    "int cube_bits = 30;",
+    "int mass = 0;",
+    "int mass = 4194305;",
+    "parameter byteorder = 0x12345679;",
+    "parameter cube_x0 = word;",
+    'parameter cube_y0 = "1";',
+    'char cube_z0[] = "1";',
+]
 
 # words, standard input, status, output or text of refusal
 WORKED = [
@@ -97,12 +119,44 @@ WORKED = [
         0,
         forces("0 621377 1242754 1242754", "1 -621377 -1242754 -1242754"),
     ),
-    ("forces", header_of("int x = ;\n"), 3, "H4 syntax at 14"),
-    ("forces", header_of("long n = 1;\n"), 3, "H5 unknown type at 6"),
+    ("forces", header_of("int x = ;"), 3, "H4 syntax at 14"),
+    ("forces", header_of("long n = 1;"), 3, "H5 unknown type at 6"),
     ("forces", header_of(""), 3, "H8 no struct"),
     ("forces", b"", 3, "H1 not an SDF file"),
     ("forces", b"# SDF", 3, "H3 header has no end"),
     ("forces", file_of(BARE, count=262145), 3, "H13 too many rows 262145"),
+    ("forces", header_of(struct_of("char c[1021];")), 0, forces()),
+    refused_at("H9 row too wide", struct_of("char ^c[1022];")),
+    refused_at("H9 row too wide", struct_of("char ^c[1024 @")),
+    refused_at("H4 syntax", struct_of("char c[^1025];")),
+    refused_at("H4 syntax", struct_of("char c[^0x];")),
+    ("forces", header_of(struct_of("char " + ", ".join(f"c{k}" for k in range(61)) + ";")), 0, forces()),
+    refused_at("H9 row too wide", struct_of("char " + ", ".join(f"c{k}" for k in range(61)) + ", ^d[0];")),
+    refused_at("H6 name twice", struct_of("char " + ", ".join(f"c{k}" for k in range(61)) + ", ^x;")),
+    refused_at("H6 name twice", "int n = 1; parameter ^n = ;"),
+    refused_at("H7 second struct", struct_of("") + "^struct"),
+    refused_at("H5 unknown type", "^unsigned @;"),
+    refused_at("H5 unknown type", "struct {^parameter n = 1;"),
+    refused_at("H4 syntax", f'char a[] = ^"{"t" * 4097}";'),
+    ("forces", header_of(f'char a[] = "{"t" * 4096}";'), 3, "H8 no struct"),
+    refused_at("H4 syntax", "float a = ^18446744073709551616;"),
+    refused_at("H4 syntax", "float a = 0x1e^+2;"),
+    refused_at("H4 syntax", "float a = 1; ^/*/ float b = 2;"),
+    refused_at("H4 syntax", "^/ float b = 2;"),
+    refused_at("H5 unknown type", "float a = 1; ^unsigned long b = 2;"),
+    *[("forces", header_of(struct_of("") + f"int cube_bits = {n};"), 0, forces()) for n in ("1", "29")],
+    *[("forces", header_of(struct_of("") + f"int mass = {n};"), 0, forces()) for n in ("1", "4194304")],
+    *[("forces", header_of(struct_of("") + text), 3, f"H12 bad parameter {text.split()[1]}") for text in BAD_PARAMETERS],
+    *[refused_at("H4 syntax", f"float a = ^{number};") for number in NO_NUMBERS],
+    *[("forces", header_of(f"float a = {number};"), 3, "H8 no struct") for number in NUMBERS],
+    ("forces", b"# SDF\n" + b"#" * 65529, 3, "H3 header has no end"),
+    ("forces", b"# SDF\n" + b"#" * 65530, 3, "H2 header longer than 65536 bytes"),
+    ("forces", b"# SDF\n" + b"#" * 65522 + b"SDF-EOH\n", 3, "H8 no struct"),
+    ("forces", b"# SDF\n" + b"#" * 65523 + b"SDF-EOH\n", 3, "H2 header longer than 65536 bytes"),
+    ("forces", header_of("struct {int8_t x, y; short z[1];}[];"), 3, "H10 column z is missing"),
+    ("forces", header_of(struct_of("double work;") + "int cube_bits = 30;"), 3, "H11 column work is not whole"),
+    ("forces", header_of(struct_of("") + "int mass = 0; float cube_bits = 21.0;"), 3, "H12 bad parameter cube_bits"),
+    ("forces", header_of(struct_of("short mass;") + "int mass = 0;"), 0, forces()),
     ("", b"", 2, "A1 no command"),
     ("weigh", b"", 2, "A2 unknown command weigh"),
     ("split --theta 1/1", b"", 2, "A3 unknown option --theta"),

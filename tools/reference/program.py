@@ -10,8 +10,21 @@ def line(text):
     return f"hot: {text}\n".encode()
 
 
-def answer(words, stdin, files):
-    """The answer to these words, with these bytes on standard input and these files by name."""
+def answer(words, stdin, files, full=""):
+    """The answer to these words, with these bytes on standard input and these files by name.
+
+    The stream `full`, if any, takes no byte.
+    """
+    status, out, err = prepared(words, stdin, files)
+    if full == "out" and out:
+        return 5, b"", line("write fault")
+    if full == "err" and err:
+        return 5, out, b""
+    return status, out, err
+
+
+def prepared(words, stdin, files):
+    """The answer where each stream takes all bytes."""
     try:
         command, options, file = read(words)
     except Refused as refused:
