@@ -2,20 +2,24 @@
 
 Usage: tools/check [--program PATH | --try] [--cases N] [--seed S]
 
-The cases are those worked by hand, the files near the limits, and N random ones: body files of every layout, changed
-headers, spoilt rows, and lists of words. Output, error stream and status are compared. The program is the built one,
-which `./hot` builds where it is not built yet; with --try it is the same source without proof (`rt try`), over fewer
-cases, and only those that take no file and no odd word. N is 600, and 60 with --try.
+The cases are those worked by hand, files at the limits, streams that fail, and N random ones: body files of every
+layout, changed headers, spoilt rows, and lists of words. Output, error stream and status are compared. The program is
+the built one, which `./hot` builds where it is not built yet; with --try it is the same source without proof (`rt
+try`), over fewer cases, and only those that take no file, no stream that fails and no odd word. N is 600, and 60 with
+--try.
 """
 
 import argparse
 import collections
+import contextlib
 import os
+import pty
 import random
 import subprocess
 import sys
 import tempfile
 import time
+import tty
 from concurrent.futures import ThreadPoolExecutor
 
 from cases import Case
@@ -27,6 +31,7 @@ from reference.program import answer
 from unproved import can_try, run_unproved
 
 TOP = os.path.dirname(os.path.dirname(os.path.abspath(__file__)))
+MAX_BROKEN = 1024  # bytes that a terminal holds
 BUILT = os.path.join(TOP, "crates", "hot", "out", "hot")
 
 
@@ -46,36 +51,60 @@ def random_case(rng):
     return Case(kind, good_words(rng), make(rng))
 
 
-def limit_cases(rng):
-    """Streams that take no byte, and files about the limit of rows, with a stated count and without."""
-    return [
-        Case("full", ["forces"], plain_file(rng, 3, "x,y,z", "3"), full="out"),
-        Case("full", ["forces"], plain_file(rng, 3, "x,y,z", "3"), full="err"),
-        Case("full", ["forces"], plain_file(rng, 3, "x,y,z", "4"), full="out"),
-        Case("full", ["forces"], plain_file(rng, 3, "x,y,z", "4"), full="err"),
+def stream_cases(rng):
+    """Streams that take no byte, and inputs that fail behind their last byte."""
+    good, cut = plain_file(rng, 3, "x,y,z", "3"), plain_file(rng, 3, "x,y,z", "4")
+    cases = [
+        Case("full", ["forces"], good, full="out"),
+        Case("full", ["forces"], good, full="err"),
+        Case("full", ["forces"], cut, full="out"),
+        Case("full", ["forces"], cut, full="err"),
         Case("full", ["forces", "-h"], full="err"),
         Case("full", ["force"], full="err"),
         Case("full", ["make"], full="out"),
-        Case("limit", ["forces"], plain_file(rng, 262145, "x,y,z", "")),
-        Case("limit", ["forces"], plain_file(rng, 262145, "x,y,z", "")[:-1]),
-        Case("limit", ["forces"], plain_file(rng, 262145, "x,y,z", "262144")),
-        Case("limit", ["forces"], plain_file(rng, 262143, "x,y,z", "262144")),
-        Case("limit", ["forces"], plain_file(rng, 262145, "x,y,z", "262145")),
-        Case("limit", ["forces"], plain_file(rng, 400, "x,y,z", "")),
     ]
+    whole = [*(data for _, data, _ in worked()), *(spoilt_rows(rng) for _ in range(20))]
+    for data in [b"# SDX", good + b"\0", *(mutated_header(rng) for _ in range(20)), *whole]:
+        if len(data) <= MAX_BROKEN:
+            cases.append(Case("broken", ["forces"], data, broken=True))
+            cases.append(Case("broken", ["forces"], data[: rng.randint(0, len(data))], broken=True))
+    return cases
+
+
+def limit_cases(rng):
+    """Files about the limit of rows, with a stated count and without."""
+    files = [(262145, ""), (262145, "262144"), (262143, "262144"), (262145, "262145"), (400, "")]
+    cases = [Case("limit", ["forces"], plain_file(rng, rows, "x,y,z", count)) for rows, count in files]
+    return [*cases, Case("limit", ["forces"], cases[0].stdin[:-1])]
+
+
+@contextlib.contextmanager
+def failing_input(data):
+    """An input that gives these bytes and then fails: the master of a terminal whose other end is closed."""
+    master, slave = pty.openpty()
+    tty.setraw(slave)
+    os.write(slave, data)
+    os.close(slave)
+    try:
+        yield master
+    finally:
+        os.close(master)
 
 
 def run(program, case):
     """What the program answers, in a folder that has the files of the case."""
-    with tempfile.TemporaryDirectory(prefix="hot-check-") as folder:
+    with contextlib.ExitStack() as stack:
+        folder = stack.enter_context(tempfile.TemporaryDirectory(prefix="hot-check-"))
         for name, data in case.files.items():
             with open(os.path.join(folder, name), "wb") as file:
                 file.write(data)
-        with open("/dev/full", "wb") as full:
-            to = {"stdout": subprocess.PIPE, "stderr": subprocess.PIPE}
-            if case.full:
-                to[f"std{case.full}"] = full
-            got = subprocess.run([program, *case.words], input=case.stdin, check=False, cwd=folder, **to)
+        streams = {"stdout": subprocess.PIPE, "stderr": subprocess.PIPE, "input": case.stdin}
+        if case.full:
+            streams[f"std{case.full}"] = stack.enter_context(open("/dev/full", "wb"))
+        if case.broken:
+            del streams["input"]
+            streams["stdin"] = stack.enter_context(failing_input(case.stdin))
+        got = subprocess.run([program, *case.words], check=False, cwd=folder, **streams)
     return got.returncode, got.stdout or b"", got.stderr or b""
 
 
@@ -83,12 +112,12 @@ def gather(rng, count):
     """Pairs of a case and the answer wanted."""
     pairs = []
     for words, data, wanted in worked():
-        found = answer(words, data, {})
-        if found != wanted:
-            sys.exit(f"the second computation is wrong at {words}: {found} for {wanted}")
-        pairs.append((Case("worked", words, data), wanted))
-    cases = limit_cases(rng) + [random_case(rng) for _ in range(count)]
-    pairs += [(case, answer(case.words, case.stdin, case.files, case.full)) for case in cases]
+        case = Case("worked", words, data)
+        if answer(case) != wanted:
+            sys.exit(f"the second computation is wrong at {words} < {data}: {answer(case)} for {wanted}")
+        pairs.append((case, wanted))
+    cases = stream_cases(rng) + limit_cases(rng) + [random_case(rng) for _ in range(count)]
+    pairs += [(case, answer(case)) for case in cases]
     pairs.append((Case("no text", ["forces", b"\xff"]), (2, b"", b"")))
     return pairs
 

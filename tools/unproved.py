@@ -11,7 +11,9 @@ def can_try(case):
     """Whether `rt try` can run a case: words that are lines of text, none of a file, and not too long an input."""
     words = [word for word in case.words if isinstance(word, str)]
     plain = all(word and "\n" not in word and "{}" not in word for word in words)
-    return plain and len(words) == len(case.words) and words and not case.files and not case.full and len(case.stdin) < 1 << 19
+    if case.files or case.full or case.broken or len(case.stdin) >= 1 << 19:
+        return False
+    return bool(words) and plain and len(words) == len(case.words)
 
 
 def run_unproved(top, cases):

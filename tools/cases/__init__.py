@@ -10,3 +10,4 @@ class Case:
     stdin: bytes = b""
     files: dict = field(default_factory=dict)
     full: str = ""  # the stream, `out` or `err`, that takes no byte
+    broken: bool = False  # whether standard input fails behind its bytes

@@ -75,7 +75,7 @@ BAD_PARAMETERS = [
     "parameter byteorder = 0x12345679;",
     "parameter cube_x0 = word;",
     'parameter cube_y0 = "1";',
-    'char cube_z0[] = "1";',
+    'char cube_z0 [] = "1";',
 ]
 
 # words, standard input, status, output or text of refusal

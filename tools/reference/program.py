@@ -10,21 +10,14 @@ def line(text):
     return f"hot: {text}\n".encode()
 
 
-def answer(words, stdin, files, full=""):
-    """The answer to these words, with these bytes on standard input and these files by name.
-
-    The stream `full`, if any, takes no byte.
-    """
-    status, out, err = prepared(words, stdin, files)
-    if full == "out" and out:
-        return 5, b"", line("write fault")
-    if full == "err" and err:
-        return 5, out, b""
-    return status, out, err
+def is_decided(refused, data):
+    """Whether these bytes show a fault, whatever comes behind them."""
+    code = str(refused).split()[0]
+    return code not in ("H3", "B1") and not (code == "H1" and b"# SDF".startswith(data))
 
 
-def prepared(words, stdin, files):
-    """The answer where each stream takes all bytes."""
+def prepared(words, stdin, files, broken):
+    """The answer where each stream takes all bytes; where `broken`, standard input fails behind its bytes."""
     try:
         command, options, file = read(words)
     except Refused as refused:
@@ -32,11 +25,24 @@ def prepared(words, stdin, files):
     if is_of_later(command, options):
         return 2, b"", line("A0 words of a later stage")
     data = stdin if file == "-" else files.get(file)
+    fails = broken and file == "-"
     if data is None:
         return 4, b"", line("read fault")
     try:
         found = bodies(data)
     except Refused as refused:
-        return 3, b"", line(refused)
+        return (4, b"", line("read fault")) if fails and not is_decided(refused, data) else (3, b"", line(refused))
+    if fails:
+        return 4, b"", line("read fault")
     text = forces_text(found, options["--eps"], options["--theta"], options["--leaf"])
     return 0, text.encode(), b""
+
+
+def answer(case):
+    """The answer to a case (see cases/)."""
+    status, out, err = prepared(case.words, case.stdin, case.files, case.broken)
+    if case.full == "out" and out:
+        return 5, b"", line("write fault")
+    if case.full == "err" and err:
+        return 5, out, b""
+    return status, out, err
