@@ -78,6 +78,26 @@ BAD_PARAMETERS = [
     'parameter cube_y0 = "1";',
     'char cube_z0 [] = "1";',
 ]
+BAD_VALUES = {
+    "--theta": "1/0 1025/1 1/1025 1/1/1 1/1/ /1 1/ / 1 -1/1 +1/1 0x1/1".split(),
+    "--eps": ["0", "268435457", "-1", "+1", "1.0", "", " 1", "000000000000000000001", "18446744073709551616", "٣", "--leaf"],
+    "--leaf": ["0", "65"],
+    "--ranks": ["0", "65"],
+    "--mail": ["Prompt", "prompts", "", "18446744073709551616", "-1"],
+    "--form": ["Text", "binary", "", "0"],
+}
+GOOD_VALUES = {
+    "--theta": ["0/1", "1024/1024", "1/1024", "00000000000000000001/01"],
+    "--eps": ["1", "268435456", "00000000000000000001"],
+    "--leaf": ["1", "64"],
+    "--ranks": ["1"],
+    "--mail": ["prompt"],
+    "--form": ["text"],
+}
+LATER = """split;split --ranks 64;make;make --bodies 262144 --seed 18446744073709551615;sample --leaf 1;forces --ranks 2
+forces --ranks 64;forces --mail last;forces --mail single;forces --mail 0;forces --mail 18446744073709551615
+forces --form sdf;forces --report;forces --report nowhere""".replace("\n", ";").split(";")
+WORK = "# SDF\nint mass = 3; struct {int8_t x, y, z; int64_t work;}[1];\n# SDF-EOH\n".encode() + b"\0\0\0"
 
 # words, standard input, status, output or text of refusal
 WORKED = [
@@ -173,6 +193,35 @@ WORKED = [
     ("forces a b", b"", 2, "A7 extra word a"),
     ("make", b"", 2, "A0 words of a later stage"),
     ("forces nowhere", b"", 4, "read fault"),
+    *[
+        (["forces", option, value], b"", 2, f"A6 bad value {value} for {option}")
+        for option, values in BAD_VALUES.items()
+        for value in values
+    ],
+    *[
+        (["forces", option, value], file_of(BARE), 0, forces())
+        for option, values in GOOD_VALUES.items()
+        for value in values
+    ],
+    *[(words, b"", 2, "A0 words of a later stage") for words in LATER],
+    ("make --bodies 262145", b"", 2, "A6 bad value 262145 for --bodies"),
+    ("make --seed 18446744073709551616", b"", 2, "A6 bad value 18446744073709551616 for --seed"),
+    ("make -", b"", 2, "A7 extra word -"),
+    ("sample --mail", b"", 2, "A4 no value for --mail"),
+    ("sample --form sdf", b"", 2, "A3 unknown option --form"),
+    ("forces --report --report", b"", 2, "A5 option given twice --report"),
+    ("forces - --eps", b"", 2, "A7 extra word -"),
+    ("forces -", file_of(BARE), 0, forces()),
+    (["forces", ""], file_of(BARE), 4, "read fault"),
+    ("forces --help", b"", 2, "A3 unknown option --help"),
+    ("--help", b"", 2, "A2 unknown command --help"),
+    ("forces", file_of(MASS, (-1, -1, 0, 0)), 3, "B3 row 0 outside the cube on x"),
+    ("forces", file_of(MASS, (0, -1, -1, 0)), 3, "B3 row 0 outside the cube on y"),
+    ("forces", file_of(MASS, (0, 0, -1, 0)), 3, "B3 row 0 outside the cube on z"),
+    ("forces", file_of(MASS, (0, 0, 0, 1), (0, 0, 2097152, 0))[:-1], 3, "B1 row 1 is cut short"),
+    ("forces", WORK + (2**32 - 1).to_bytes(8, "little"), 0, forces("0 0 0 0")),
+    ("forces", WORK + (2**32).to_bytes(8, "little"), 3, "B5 row 0 work out of range"),
+    ("forces", WORK + b"\xff" * 8, 3, "B5 row 0 work out of range"),
 ]
 
 
@@ -180,4 +229,4 @@ def worked():
     """Each worked case: words, standard input, and the three answers."""
     for words, data, status, told in WORKED:
         out, err = (told, "") if status == 0 else ("", f"hot: {told}\n")
-        yield words.split(), data, (status, out.encode(), err.encode())
+        yield words.split() if isinstance(words, str) else words, data, (status, out.encode(), err.encode())
