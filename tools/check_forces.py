@@ -5,8 +5,7 @@ Usage: tools/check [--program PATH | --try] [--cases N] [--seed S]
 The cases are those worked by hand, files at the limits, streams that fail, and N random ones: body files of every
 layout, changed headers, spoilt rows, and lists of words. Output, error stream and status are compared. The program is
 the built one, which `./hot` builds where it is not built yet; with --try it is the same source without proof (`rt
-try`), over fewer cases, and only those that take no file, no stream that fails and no odd word. N is 600, and 60 with
---try.
+try`), over N of all these cases that take no file, no stream that fails and no odd word. N is 600, and 60 with --try.
 """
 
 import argparse
@@ -153,6 +152,7 @@ def main():
     pairs = gather(random.Random(options.seed), count)
     if options.unproved:
         pairs = [pair for pair in pairs if can_try(pair[0])]
+        pairs = random.Random(options.seed).sample(pairs, min(count, len(pairs)))
         found = run_unproved(TOP, [case for case, _ in pairs])
     else:
         program = os.path.abspath(options.program) if options.program else built_program()

@@ -10,7 +10,7 @@ import tempfile
 def can_try(case):
     """Whether `rt try` can run a case: words that are lines of text, none of a file, and not too long an input."""
     words = [word for word in case.words if isinstance(word, str)]
-    plain = all(word and "\n" not in word and "{}" not in word for word in words)
+    plain = all(word.strip() == word != "" and "\n" not in word and "{}" not in word for word in words)
     if case.files or case.full or case.broken or len(case.stdin) >= 1 << 19:
         return False
     return bool(words) and plain and len(words) == len(case.words)

@@ -65,6 +65,12 @@ THREE = file_of(MASS, (0, 0, 0, 1), HEAVY, (1048577, 0, 0, 4194304))
 SAME = file_of(MASS, (0, 0, 0, 1), HEAVY, HEAVY)
 FLOAT_X = HEAD.format(columns="float x; int32_t y, z;", count=0).encode()
 
+# A cell of side 512 with two bodies and its centre at 1152 128 128, and a body at a distance of 512 or 513
+FINE_HEAD = b"# SDF\nint cube_bits = 29;\nstruct {int32_t x, y, z, mass;}[];\n# SDF-EOH\n"
+CELL = struct.pack("<8i", 1024, 0, 0, 4194304, 1280, 256, 256, 4194304)
+AT_SIDE = FINE_HEAD + struct.pack("<4i", 640, 128, 128, 1) + CELL
+PAST_SIDE = FINE_HEAD + struct.pack("<4i", 639, 128, 128, 1) + CELL
+
 NO_NUMBERS = "1.5.2 0x1.5 1_ 1e 1e+ . .e5 + - 0x 0xg 00x1 12a --1 +-1 1..2 -9223372036854775809".split()
 NUMBERS = "5. .5 5.e3 -.5E-2 0X1f +0x1E 1e99999 -9223372036854775808 18446744073709551615 0000000000000000000000001".split()
 BAD_PARAMETERS = [
@@ -94,7 +100,7 @@ GOOD_VALUES = {
     "--mail": ["prompt"],
     "--form": ["text"],
 }
-LATER = """split;split --ranks 64;make;make --bodies 262144 --seed 18446744073709551615;sample --leaf 1;forces --ranks 2
+LATER = """split;split nowhere;split --ranks 64;make;make --bodies 262144 --seed 18446744073709551615;sample --leaf 1;forces --ranks 2
 forces --ranks 64;forces --mail last;forces --mail single;forces --mail 0;forces --mail 18446744073709551615
 forces --form sdf;forces --report;forces --report nowhere""".replace("\n", ";").split(";")
 WORK = "# SDF\nint mass = 3; struct {int8_t x, y, z; int64_t work;}[1];\n# SDF-EOH\n".encode() + b"\0\0\0"
@@ -123,6 +129,32 @@ WORKED = [
         file_of(BARE, (0, 0, 0), (1, 0, 0), (2, 0, 0)),
         0,
         forces("0 8932854 0 0", "1 0 0 0", "2 -8932854 0 0"),
+    ),
+    (
+        "forces --eps 1 --leaf 1 --theta 1/1",
+        AT_SIDE,
+        0,
+        forces(
+            "0 33177081949915 -5708926649317 -5708926649317",
+            "1 13542388587101 13542395944902 13542395944902",
+            "2 -13542396497133 -13542394583788 -13542394583788",
+        ),
+    ),
+    (
+        "forces --eps 1 --leaf 1 --theta 1/1",
+        PAST_SIDE,
+        0,
+        forces(
+            "0 35047201568775 0 0",
+            "1 13542388607961 13542395933189 13542395933189",
+            "2 -13542396490500 -13542394581717 -13542394581717",
+        ),
+    ),
+    (
+        "forces --eps 1 --theta 1024/1",
+        file_of(MASS, (0, 0, 0, 4194304), (2097151, 0, 0, 4194304)),
+        0,
+        forces("0 16 0 0", "1 -16 0 0"),
     ),
     ("forces", FLOAT_X, 3, "H11 column x is not whole"),
     ("forces", file_of(BARE, (2097152, 0, 0)), 3, "B3 row 0 outside the cube on x"),
