@@ -1,191 +1,170 @@
-"""Computes forces by the words of docs/MODEL.md in plain whole numbers, and compares the program's output byte for byte.
+"""Compares the program, byte for byte, with a second, plain computation of the same answers (reference/).
 
-Usage: tools/check [--program PATH] [--cases N] [--seed S]
+Usage: tools/check [--program PATH | --try] [--cases N] [--seed S]
 
-The program is `./hot`, which builds what is not built yet. Each case is a file of random bodies, a softening and a
-ratio; some cases are files with a fault, whose one line and status are compared.
+The cases are those worked by hand, files at the limits, streams that fail, and N random ones: body files of every
+layout, changed headers, spoilt rows, and lists of words. Output, error stream and status are compared. The program is
+the built one, which `./hot` builds where it is not built yet; with --try it is the same source without proof (`rt
+try`), over N of all these cases that take no file, no stream that fails and no odd word. N is 600, and 60 with --try.
 """
 
 import argparse
-import math
+import collections
+import contextlib
 import os
+import pty
 import random
-import struct
 import subprocess
 import sys
+import tempfile
+import time
+import tty
+from concurrent.futures import ThreadPoolExecutor
+
+from cases import Case
+from cases.calls import good_words, random_call
+from cases.faults import long_header, mutated_header, plain_file, spoilt_rows, wide_header
+from cases.layouts import pick_file
+from cases.worked import worked
+from reference.program import answer
+from unproved import can_try, run_unproved
 
 TOP = os.path.dirname(os.path.dirname(os.path.abspath(__file__)))
-LEVELS = 21
-FINE_BITS = 29
-LEAF = 8
-EDGE = 1 << 21
-MAX_MASS = 4194304
-
-
-# --- the definitions of docs/MODEL.md ---
-
-
-def key_of(body):
-    x, y, z, _ = body
-    key = 1
-    for level in range(1, LEVELS + 1):
-        bit = FINE_BITS - level
-        key = 8 * key + 4 * (x >> bit & 1) + 2 * (y >> bit & 1) + (z >> bit & 1)
-    return key
-
-
-def level_of(cell):
-    return (cell.bit_length() - 1) // 3
-
-
-def contains(cell, key):
-    return key >> 3 * (LEVELS - level_of(cell)) == cell
-
-
-def pull(p, c, mass, eps):
-    gap = [ci - pi for pi, ci in zip(p, c)]
-    r2 = sum(g * g for g in gap) + eps * eps
-    s = math.isqrt(r2 << 20)
-    sizes = [(mass * abs(g) << 50) // (r2 * s) for g in gap]
-    return [size if g >= 0 else -size for g, size in zip(gap, sizes)]
-
-
-def accepts(key, p, cell, centre, ratio):
-    if contains(cell, key):
-        return False
-    side = 1 << FINE_BITS - level_of(cell)
-    distance2 = sum((ci - pi) ** 2 for pi, ci in zip(p, centre))
-    num, den = ratio
-    return side * side * den * den < num * num * distance2
-
-
-def add(a, b):
-    return [i + j for i, j in zip(a, b)]
-
-
-def force(key, p, inside, cell, eps, ratio):
-    """The force on the body at `p` from a cell with the bodies `inside`, pairs of a key and a body."""
-    if not inside:
-        return [0, 0, 0]
-    mass = sum(b[3] for _, b in inside)
-    centre = [sum(b[3] * b[i] for _, b in inside) // mass for i in range(3)]
-    if accepts(key, p, cell, centre, ratio):
-        return pull(p, centre, mass, eps)
-    total = [0, 0, 0]
-    if len(inside) <= LEAF or level_of(cell) == LEVELS:
-        for _, b in inside:
-            total = add(total, pull(p, b[:3], b[3], eps))
-        return total
-    for digit in range(8):
-        child = 8 * cell + digit
-        part = [pair for pair in inside if contains(child, pair[0])]
-        total = add(total, force(key, p, part, child, eps, ratio))
-    return total
-
-
-def forces_text(rows, eps, ratio):
-    bodies = [(x * 256, y * 256, z * 256, m) for x, y, z, m in rows]
-    keyed = [(key_of(b), b) for b in bodies]
-    lines = ["# hot forces 1"]
-    for row, (key, b) in enumerate(keyed):
-        a = force(key, b[:3], keyed, 1, eps, ratio)
-        lines.append(f"{row} {a[0]} {a[1]} {a[2]}")
-    lines.append(f"# end {len(rows)}")
-    return "\n".join(lines) + "\n"
-
-
-def fault_of(rows):
-    for k, (x, y, z, m) in enumerate(rows):
-        for axis, value in zip("xyz", (x, y, z)):
-            if not 0 <= value < EDGE:
-                return f"hot: B3 row {k} outside the cube on {axis}\n"
-        if not 1 <= m <= MAX_MASS:
-            return f"hot: B4 row {k} mass out of range\n"
-    return None
-
-
-# --- files and cases ---
-
-
-def file_of(rows):
-    head = (
-        "# SDF\nparameter byteorder = 0x78563412;\nint cube_bits = 21;\nstruct {\n"
-        f"int32_t x, y, z, mass;\n}}[{len(rows)}];\n# SDF-EOH\n"
-    )
-    return head.encode() + b"".join(struct.pack("<4i", *row) for row in rows)
-
-
-def random_rows(rng):
-    """Bodies in a few clusters of some width, heavy more often than light."""
-    width = rng.choice([1, 2, 4, 16, 64, 1024, 65536, EDGE])
-    centres = [[rng.randrange(EDGE) for _ in range(3)] for _ in range(rng.randint(1, 4))]
-    heavy = rng.random() < 0.8
-    rows = []
-    for _ in range(rng.choice([0, 1, 2, 3, 5, 9, 17, 30, 60])):
-        centre = rng.choice(centres)
-        place = [min(EDGE - 1, max(0, c + rng.randint(-width, width))) for c in centre]
-        mass = rng.randint(MAX_MASS // 2, MAX_MASS) if heavy else rng.randint(1, 1000)
-        rows.append((*place, mass))
-    return rows
-
-
-def spoilt(rng, rows):
-    """The rows with one number out of its range."""
-    rows = [list(row) for row in rows]
-    row = rng.randrange(len(rows))
-    place = rng.randrange(4)
-    rows[row][place] = rng.choice([-1, -(2**31), 2**31 - 1, EDGE if place < 3 else MAX_MASS + 1])
-    return [tuple(row) for row in rows]
+MAX_BROKEN = 1024  # bytes that a terminal holds
+BUILT = os.path.join(TOP, "crates", "hot", "out", "hot")
 
 
 def random_case(rng):
-    rows = random_rows(rng)
-    words = ["forces"]
-    eps, ratio = 256, (7, 10)
-    options = []
-    if rng.random() < 0.8:
-        eps = rng.choice([1, 1, 2, 255, 256, 1000, 1 << 20, 1 << 28, rng.randint(1, 1 << 28)])
-        options.append(["--eps", str(eps)])
-    if rng.random() < 0.8:
-        ratio = rng.choice([(0, 1), (1, 1), (1, 2), (7, 10), (1024, 1), (1, 1024), (rng.randint(0, 1024), rng.randint(1, 1024))])
-        options.append(["--theta", f"{ratio[0]}/{ratio[1]}"])
-    rng.shuffle(options)
-    for option in options:
-        words += option
-    kind = rng.random()
-    if kind < 0.1 and rows:
-        rows = spoilt(rng, rows)
-    data = file_of(rows)
-    fault = fault_of(rows)
-    if 0.1 <= kind < 0.15:
-        data, fault = data[:-1], "hot: H0 form of a later stage\n"
-    elif 0.15 <= kind < 0.2:
-        data, fault = data + b"\0", "hot: H0 form of a later stage\n"
-    if fault:
-        return words, data, 3, "", fault
-    return words, data, 0, forces_text(rows, eps, ratio), ""
+    """A random case, of a kind by its share."""
+    kinds = {"layout": 35, "header": 30, "wide": 4, "long": 3, "rows": 15, "words": 25}
+    kind = rng.choices([*kinds], [*kinds.values()])[0]
+    if kind == "words":
+        return random_call(rng)
+    make = {
+        "layout": lambda rng: pick_file(rng).data(rng),
+        "header": mutated_header,
+        "wide": wide_header,
+        "long": long_header,
+        "rows": spoilt_rows,
+    }[kind]
+    return Case(kind, good_words(rng), make(rng))
+
+
+def stream_cases(rng):
+    """Streams that take no byte, and inputs that fail behind their last byte."""
+    good, cut = plain_file(rng, 3, "x,y,z", "3"), plain_file(rng, 3, "x,y,z", "4")
+    cases = [
+        Case("full", ["forces"], good, full="out"),
+        Case("full", ["forces"], good, full="err"),
+        Case("full", ["forces"], cut, full="out"),
+        Case("full", ["forces"], cut, full="err"),
+        Case("full", ["forces", "-h"], full="err"),
+        Case("full", ["force"], full="err"),
+        Case("full", ["make"], full="out"),
+    ]
+    whole = [*(data for _, data, _ in worked()), *(spoilt_rows(rng) for _ in range(20))]
+    for data in [b"# SDX", good + b"\0", *(mutated_header(rng) for _ in range(20)), *whole]:
+        if len(data) <= MAX_BROKEN:
+            cases.append(Case("broken", ["forces"], data, broken=True))
+            cases.append(Case("broken", ["forces"], data[: rng.randint(0, len(data))], broken=True))
+    return cases
+
+
+def limit_cases(rng):
+    """Files about the limit of rows, with a stated count and without."""
+    files = [(262145, ""), (262145, "262144"), (262143, "262144"), (262145, "262145"), (400, "")]
+    cases = [Case("limit", ["forces"], plain_file(rng, rows, "x,y,z", count)) for rows, count in files]
+    return [*cases, Case("limit", ["forces"], cases[0].stdin[:-1])]
+
+
+@contextlib.contextmanager
+def failing_input(data):
+    """An input that gives these bytes and then fails: the master of a terminal whose other end is closed."""
+    master, slave = pty.openpty()
+    tty.setraw(slave)
+    os.write(slave, data)
+    os.close(slave)
+    try:
+        yield master
+    finally:
+        os.close(master)
+
+
+def run(program, case):
+    """What the program answers, in a folder that has the files of the case."""
+    with contextlib.ExitStack() as stack:
+        folder = stack.enter_context(tempfile.TemporaryDirectory(prefix="hot-check-"))
+        for name, data in case.files.items():
+            with open(os.path.join(folder, name), "wb") as file:
+                file.write(data)
+        streams = {"stdout": subprocess.PIPE, "stderr": subprocess.PIPE, "input": case.stdin}
+        if case.full:
+            streams[f"std{case.full}"] = stack.enter_context(open("/dev/full", "wb"))
+        if case.broken:
+            del streams["input"]
+            streams["stdin"] = stack.enter_context(failing_input(case.stdin))
+        got = subprocess.run([program, *case.words], check=False, cwd=folder, **streams)
+    return got.returncode, got.stdout or b"", got.stderr or b""
+
+
+def gather(rng, count):
+    """Pairs of a case and the answer wanted."""
+    pairs = []
+    for words, data, wanted in worked():
+        case = Case("worked", words, data)
+        if answer(case) != wanted:
+            sys.exit(f"the second computation is wrong at {words} < {data}: {answer(case)} for {wanted}")
+        pairs.append((case, wanted))
+    cases = stream_cases(rng) + limit_cases(rng) + [random_case(rng) for _ in range(count)]
+    pairs += [(case, answer(case)) for case in cases]
+    pairs.append((Case("no text", ["forces", b"\xff"]), (2, b"", b"")))
+    return pairs
+
+
+def show(number, case, wanted, got):
+    """Tells of a case that differs, and keeps its input."""
+    name = f"/tmp/hot-case-{number}.sdf"
+    with open(name, "wb") as file:
+        file.write(case.stdin)
+    print(f"case {number} ({case.kind}) differs: {case.words} < {name}", file=sys.stderr)
+    for who, (status, out, err) in (("wanted", wanted), ("got", got)):
+        print(f"{who} {status} {err!r}\n{out.decode(errors='replace')}", file=sys.stderr)
+
+
+def built_program():
+    """The proved program, built by `./hot` where it is not built yet."""
+    subprocess.run([os.path.join(TOP, "hot")], stdin=subprocess.DEVNULL, stderr=subprocess.DEVNULL, check=False)
+    if not os.path.exists(BUILT):
+        sys.exit("tools/check: ./hot did not build the program")
+    return BUILT
 
 
 def main():
     parser = argparse.ArgumentParser()
-    parser.add_argument("--program", default=os.path.join(TOP, "hot"))
-    parser.add_argument("--cases", type=int, default=300)
+    parser.add_argument("--program")
+    parser.add_argument("--try", dest="unproved", action="store_true")
+    parser.add_argument("--cases", type=int)
     parser.add_argument("--seed", type=int, default=1)
     options = parser.parse_args()
-    rng = random.Random(options.seed)
-    for case in range(options.cases):
-        words, data, status, out, err = random_case(rng)
-        got = subprocess.run([options.program, *words], input=data, capture_output=True, check=False)
-        if (got.returncode, got.stdout, got.stderr) != (status, out.encode(), err.encode()):
-            name = f"/tmp/hot-case-{case}.sdf"
-            with open(name, "wb") as file:
-                file.write(data)
-            print(f"case {case} differs: {' '.join(words)} < {name}", file=sys.stderr)
-            print(f"wanted {status} {err!r}\n{out}", file=sys.stderr)
-            print(f"got {got.returncode} {got.stderr!r}\n{got.stdout.decode()}", file=sys.stderr)
-            return 1
-    print(f"{options.cases} cases agree")
-    return 0
+    count = options.cases or (60 if options.unproved else 600)
+    begin = time.monotonic()
+    print(f"seed {options.seed}", flush=True)
+    pairs = gather(random.Random(options.seed), count)
+    if options.unproved:
+        pairs = [pair for pair in pairs if can_try(pair[0])]
+        pairs = random.Random(options.seed).sample(pairs, min(count, len(pairs)))
+        found = run_unproved(TOP, [case for case, _ in pairs])
+    else:
+        program = os.path.abspath(options.program) if options.program else built_program()
+        with ThreadPoolExecutor(os.cpu_count()) as pool:
+            found = list(pool.map(lambda pair: run(program, pair[0]), pairs))
+    wrong = [k for k, (pair, got) in enumerate(zip(pairs, found)) if pair[1] != got]
+    for k in wrong[:5]:
+        show(k, *pairs[k], found[k])
+    kinds = collections.Counter(f"{case.kind} {wanted[0]}" for case, wanted in pairs)
+    print(", ".join(f"{kind}: {number}" for kind, number in sorted(kinds.items())))
+    print(f"{len(pairs) - len(wrong)} of {len(pairs)} cases agree, in {time.monotonic() - begin:.1f} seconds")
+    return 1 if wrong else 0
 
 
 if __name__ == "__main__":

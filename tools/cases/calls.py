@@ -1,0 +1,78 @@
+"""Random lists of words, over a few files."""
+
+import random
+
+from cases import Case
+from cases.layouts import pick_file
+
+COMMANDS = ["forces", "split", "make", "sample"]
+OPTIONS = ["--ranks", "--theta", "--eps", "--leaf", "--mail", "--form", "--bodies", "--seed", "--report"]
+GOOD = {
+    "--ranks": ["1", "01", "1", "1", "2", "64"],
+    "--theta": ["0/1", "7/10", "1024/1024", "1/0001", "1/1024", "00/1"],
+    "--eps": ["1", "268435456", "256", "00000000000000000007"],
+    "--leaf": ["1", "8", "64"],
+    "--mail": ["prompt", "prompt", "last", "single", "0", "18446744073709551615"],
+    "--form": ["text", "text", "sdf"],
+    "--bodies": ["0", "262144", "10"],
+    "--seed": ["0", "18446744073709551615"],
+}
+BAD = """0 65 -1 +1 1.0 0x1 18446744073709551616 000000000000000000001 99999999999999999999 268435457 262145 1025 1/0 1025/1
+1/1025 1/1/1 /1 1/ / 1 Prompt prompts sdf text single -- - --eps --report forces ٣ １""".split()
+NAMES = ["-", "bodies.sdf", "./bodies.sdf", "-x", "bad.sdf", "empty", "nowhere", "", ".", "bodies.sdf/", "é.sdf"]
+
+
+def pick_value(rng, option):
+    if rng.random() < 0.85:
+        return rng.choice(GOOD[option])
+    return rng.choice([*BAD, *rng.choice([*GOOD.values()]), "", " 1", "1 ", "a\nb"])
+
+
+def good_words(rng, command="forces"):
+    """Words of a run that this stage has, or nearly."""
+    words = []
+    for option in rng.sample(["--theta", "--eps", "--leaf", "--ranks", "--mail", "--form"], rng.randint(0, 4)):
+        here = option in ("--theta", "--eps", "--leaf")
+        words.append([option, rng.choice(GOOD[option]) if here else GOOD[option][0]])
+    return [command, *[word for option in words for word in option]]
+
+
+def random_words(rng):
+    """A list of words, mostly right for its first part."""
+    if rng.random() < 0.05:
+        return rng.choice([[], [""], ["--help"], ["--version"], ["-"], ["Forces"], ["forces "], ["hot", "forces"], ["weigh"]])
+    words = [rng.choice([*COMMANDS, "forces", "forces", "forces"])]
+    pool = OPTIONS if rng.random() < 0.2 else OPTIONS[:6] + OPTIONS[8:] if words[0] == "forces" else OPTIONS
+    for _ in range(rng.choice([0, 1, 1, 2, 2, 3, 5])):
+        option = rng.choice(pool)
+        words.append(option)
+        if option != "--report":
+            words.append(pick_value(rng, option))
+    if rng.random() < 0.5:
+        words.append(rng.choice(NAMES))
+    if rng.random() < 0.3:
+        at = rng.randrange(1, len(words) + 1)
+        kind = rng.randrange(4)
+        if kind == 0:
+            words.insert(at, rng.choice([*BAD, *OPTIONS, *NAMES, "--unknown", "--eps=1", "-h"]))
+        elif kind == 1:
+            words = words[:at]
+        elif kind == 2 and len(words) > 1:
+            words.append(words[rng.randrange(1, len(words))])
+        elif at < len(words):
+            del words[at]
+    return words
+
+
+def random_call(rng):
+    own = random.Random(rng.randrange(1000))
+    files = {
+        "bodies.sdf": pick_file(own, 9).data(own),
+        "-x": pick_file(own, 2).data(own),
+        "é.sdf": pick_file(own, 3).data(own),
+        "bad.sdf": b"# SDF\nint x = ;\n# SDF-EOH\n",
+        "empty": b"",
+    }
+    files["./bodies.sdf"] = files["bodies.sdf"]
+    words = [*good_words(rng), rng.choice(NAMES)] if rng.random() < 0.35 else random_words(rng)
+    return Case("words", words, pick_file(own, 5).data(own), files)

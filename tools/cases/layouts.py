@@ -1,0 +1,222 @@
+"""Random body files: headers in many spellings, rows of every type, both orders, cubes anywhere."""
+
+from dataclasses import dataclass
+
+from cases.spelling import joined, spelled, word
+from reference.header import MAX_MASS
+
+WHOLE = {
+    "int8_t": (1, True),
+    "uint8_t": (1, False),
+    "unsigned char": (1, False),
+    "short": (2, True),
+    "int16_t": (2, True),
+    "unsigned short": (2, False),
+    "uint16_t": (2, False),
+    "int": (4, True),
+    "int32_t": (4, True),
+    "unsigned int": (4, False),
+    "uint32_t": (4, False),
+    "int64_t": (8, True),
+    "uint64_t": (8, False),
+}
+OTHER = {"char": 1, "float": 4, "double": 8}
+
+
+@dataclass
+class File:
+    """A body file in parts: the tokens of its header, and its rows."""
+
+    tokens: list
+    front: bytes
+    end: bytes
+    rows: list
+    columns: list  # of each field: name, type, length (0 where it is no array)
+    most_first: bool
+
+    def text(self, rng):
+        return self.front + joined(rng, self.tokens) + b"\n" + self.end
+
+    def data(self, rng):
+        return self.text(rng) + b"".join(self.rows)
+
+    def offset(self, name):
+        """Where a column stands in a row, and its bytes and sign."""
+        at = 0
+        for own, kind, length in self.columns:
+            size = WHOLE[kind][0] if kind in WHOLE else OTHER[kind]
+            if own == name:
+                return at, size, WHOLE[kind][1]
+            at += size * max(1, length)
+        return None
+
+    def put(self, k, name, value):
+        """Writes a number into a row."""
+        at, size, signed = self.offset(name)
+        number = packed(value, size, signed, self.most_first)
+        self.rows[k] = self.rows[k][:at] + number + self.rows[k][at + size :]
+
+
+def bounds(size, signed):
+    return (-(2 ** (8 * size - 1)), 2 ** (8 * size - 1) - 1) if signed else (0, 2 ** (8 * size) - 1)
+
+
+def packed(value, size, signed, most_first):
+    return value.to_bytes(size, "big" if most_first else "little", signed=signed)
+
+
+def pick_number(rng, least, most):
+    """A number of a range: an end, near an end, small, or any."""
+    near = [least, most, min(most, max(least, 0)), min(most, max(least, rng.randint(-300, 300)))]
+    return rng.choice([*near, rng.randint(least, most)])
+
+
+def pick_type(rng, most_bytes=8):
+    return rng.choice([kind for kind, (size, _) in WHOLE.items() if size <= most_bytes])
+
+
+def pick_axis(rng, kind, bits):
+    """The corner of the cube on an axis, and the least and greatest gap that the type can spell."""
+    low, high = bounds(*WHOLE[kind])
+    side = 2**bits
+    if rng.random() < 0.3:
+        corner = 0
+    else:
+        corner = rng.choice([low, high - side + 1, rng.randint(low - side + 1, high), pick_number(rng, low, high)])
+        corner = min(2**64 - 1, max(-(2**63), corner))
+    least, most = max(0, low - corner), min(side - 1, high - corner)
+    if least > most:
+        return pick_axis(rng, kind, bits)
+    return corner, least, most
+
+
+def pick_places(rng, count, axes):
+    """Bodies in a few clusters of some width, as coordinates."""
+    width = rng.choice([0, 1, 2, 4, 16, 64, 1024, 65536, 1 << 29])
+    centres = [[rng.randint(least, most) for _, least, most in axes] for _ in range(rng.randint(1, 3))]
+    places = []
+    for _ in range(count):
+        centre = rng.choice(centres)
+        gaps = [
+            min(most, max(least, c + rng.randint(-width, width))) for c, (_, least, most) in zip(centre, axes)
+        ]
+        places.append([gap + axis[0] for gap, axis in zip(gaps, axes)])
+    return places
+
+
+def pick_columns(rng):
+    """The columns of a file: those that count, and others between them."""
+    columns = [(axis, pick_type(rng), 0) for axis in "xyz"]
+    if rng.random() < 0.2:
+        columns = [(axis, columns[0][1], 0) for axis in "xyz"]
+    for name, chance in (("mass", 0.6), ("ident", 0.5), ("work", 0.4)):
+        if rng.random() < chance:
+            length = rng.randint(1, 4) if rng.random() < 0.1 else 0
+            columns.append((name, pick_type(rng) if not length else rng.choice([*WHOLE, *OTHER]), length))
+    for name in ("vx", "vy", "vz", "phi", word(rng), "X", "int", "struct"):
+        if rng.random() < 0.25:
+            length = rng.choice([1, 2, 3, 40]) if rng.random() < 0.4 else 0
+            if name not in [own for own, _, _ in columns]:
+                columns.append((name, rng.choice([*WHOLE, *OTHER]), length))
+    if rng.random() < 0.6:
+        rng.shuffle(columns)
+    return columns
+
+
+def struct_tokens(rng, columns, count):
+    """The struct, columns of one type often on one line."""
+    tokens = ["struct", "{"]
+    before = None
+    for name, kind, length in columns:
+        if kind == before and rng.random() < 0.7:
+            tokens[-1] = ","
+        else:
+            tokens += kind.split()
+        tokens.append(name)
+        if length:
+            tokens += ["[", spelled(rng, length), "]"]
+        tokens.append(";")
+        before = kind
+    size = [spelled(rng, count)] if rng.random() < 0.6 else []
+    return [*tokens, "}", "[", *size, "]", ";"]
+
+
+def pick_statement(rng, name):
+    """A statement that is passed over."""
+    number = rng.choice(["1", "-0", "0x7F", "1.5", ".5", "2.", "1e9", "-3.25E-2", "18446744073709551615"])
+    return rng.choice(
+        [
+            ["parameter", name, "=", rng.choice([number, '"a # text"', "word"]), ";"],
+            [rng.choice([*OTHER]), name, "=", number, ";"],
+            [*rng.choice([*WHOLE]).split(), name, "=", spelled(rng, rng.randint(-5, 1 << 40)), ";"],
+            ["char", name, "[", *rng.choice([[], ["0"], ["16"]]), "]", "=", rng.choice(['""', '"box\n/*"']), ";"],
+        ]
+    )
+
+
+def given(rng, name, value):
+    """A statement that gives a number."""
+    front = ["parameter"] if rng.random() < 0.4 else rng.choice([*WHOLE, *OTHER]).split()
+    return [*front, name, "=", spelled(rng, value), ";"]
+
+
+def header_tokens(rng, columns, count, numbers):
+    """The statements of a header in any order."""
+    statements = [given(rng, name, value) for name, value in numbers.items()]
+    for name in {word(rng), word(rng), "parameter", "x", "redshift"}:
+        if rng.random() < 0.3 and name not in numbers:
+            statements.append(pick_statement(rng, name))
+    statements.append(struct_tokens(rng, columns, count))
+    rng.shuffle(statements)
+    return [token for statement in statements for token in statement]
+
+
+def pick_cell(rng, name, kind, length):
+    """The value of a column that is no coordinate, as a number or as bytes."""
+    size = WHOLE[kind][0] if kind in WHOLE else OTHER[kind]
+    if kind not in WHOLE or length or name not in ("mass", "ident", "work"):
+        return rng.randbytes(size * max(1, length))
+    low, high = bounds(*WHOLE[kind])
+    if name == "mass":
+        most = min(high, MAX_MASS)
+        return rng.randint(max(1, most // 2), most) if rng.random() < 0.8 else rng.randint(1, most)
+    if name == "work":
+        return pick_number(rng, 0, min(high, 2**32 - 1))
+    return pick_number(rng, low, high)
+
+
+def pick_rows(rng, columns, axes, count, most_first):
+    rows = []
+    for place in pick_places(rng, count, axes):
+        row = b""
+        for name, kind, length in columns:
+            value = place["xyz".index(name)] if name in ("x", "y", "z") else pick_cell(rng, name, kind, length)
+            row += value if isinstance(value, bytes) else packed(value, *WHOLE[kind], most_first)
+        rows.append(row)
+    return rows
+
+
+def pick_file(rng, most_rows=40):
+    """A good body file."""
+    columns = pick_columns(rng)
+    kinds = {name: kind for name, kind, _ in columns}
+    numbers = {}
+    bits = rng.choice([21, rng.randint(1, 29), rng.randint(1, 29)])
+    if bits != 21 or rng.random() < 0.5:
+        numbers["cube_bits"] = bits
+    axes = [pick_axis(rng, kinds[axis], bits) for axis in "xyz"]
+    for axis, (corner, _, _) in zip("xyz", axes):
+        if corner or rng.random() < 0.3:
+            numbers[f"cube_{axis}0"] = corner
+    most_first = rng.random() < 0.4
+    if most_first or rng.random() < 0.5:
+        numbers["byteorder"] = 0x12345678 if most_first else 0x78563412
+    if rng.random() < 0.5:
+        has_mass = any(name == "mass" and not length for name, _, length in columns)
+        numbers["mass"] = rng.choice([0, -5, 1 << 40]) if has_mass else rng.randint(1, MAX_MASS)
+    count = min(most_rows, rng.choice([0, 1, 2, 3, 5, 9, 10, 17, 25, 40]))
+    front = rng.choice([b"# SDF\n", b"# SDF 1.0\n", b"# SDF\r\n", b"# SDFx\xff\n", b"# SDF\n#\f\n#\n"])
+    end = rng.choice([b"# SDF-EOH\n", b"# SDF-EOH\n", b"#SDF-EOH\n", b"# \f SDF-EOHs\r\n", b"#\xfeSDF-EOH SDF-EOH\n"])
+    tokens = header_tokens(rng, columns, count, numbers)
+    rows = pick_rows(rng, columns, axes, count, most_first)
+    return File(tokens, front, end, rows, columns, most_first)

@@ -1,0 +1,264 @@
+"""Cases whose answers are known by hand; they test the program and the second computation alike."""
+
+import struct
+
+HEAD = "# SDF\nparameter byteorder = 0x78563412;\nint cube_bits = 21;\nstruct {{\n{columns}\n}}[{count}];\n# SDF-EOH\n"
+CONVERTER = b"""# SDF 1.0
+parameter byteorder = 0x78563412;
+/* a small box, written by a converter */
+char units[16] = "fixed point";
+int64_t npart = 2;
+double redshift = 0.5;
+int cube_bits = 21;
+int64_t cube_x0 = -1048576;
+int64_t cube_y0 = -1048576;
+int64_t cube_z0 = -1048576;
+int32_t mass = 2;
+struct {
+\tint32_t x, y, z;\t/* position */
+\tfloat vx, vy, vz;
+\tint64_t ident;
+\tfloat phi[2];
+}[2];
+#\f
+# SDF-EOH
+"""
+
+
+def file_of(columns, *rows, count=None):
+    head = HEAD.format(columns=columns, count=len(rows) if count is None else count)
+    return head.encode() + b"".join(struct.pack(f"<{len(row)}i", *row) for row in rows)
+
+
+def header_of(line):
+    return f"# SDF\n{line}\n# SDF-EOH\n".encode() if line else b"# SDF\n# SDF-EOH\n"
+
+
+def refused_at(text, line):
+    """A header, and the text of its fault at the place that `^` marks in its line."""
+    return "forces", header_of(line.replace("^", "")), 3, f"{text} at {6 + line.index('^')}"
+
+
+def struct_of(fields):
+    return f"struct {{int8_t x, y, z; {fields}}}[];"
+
+
+def forces(*lines):
+    return "".join(f"{line}\n" for line in ["# hot forces 1", *lines, f"# end {len(lines)}"])
+
+
+def converter_rows(floats):
+    first = struct.pack("<3i", -1048576, -1048576, -1048576) + floats[:12] + struct.pack("<q", 900) + floats[:8]
+    second = struct.pack("<3i", -1048572, -1048576, -1048576) + floats[4:16] + struct.pack("<q", 17) + floats[8:16]
+    return first + second
+
+
+MASS = "int32_t x, y, z, mass;"
+BARE = "int32_t x, y, z;"
+TWO = file_of(MASS, (0, 0, 0, 1), (4, 0, 0, 3))
+TWO_MOST = (
+    HEAD.format(columns=MASS, count=2).replace("0x78563412", "0x12345678").encode()
+    + struct.pack(">8i", 0, 0, 0, 1, 4, 0, 0, 3)
+)
+HEAVY = (1048576, 0, 0, 4194304)
+THREE = file_of(MASS, (0, 0, 0, 1), HEAVY, (1048577, 0, 0, 4194304))
+SAME = file_of(MASS, (0, 0, 0, 1), HEAVY, HEAVY)
+FLOAT_X = HEAD.format(columns="float x; int32_t y, z;", count=0).encode()
+
+# A cell of side 512 with two bodies and its centre at 1152 128 128, and a body at a distance of 512 or 513
+FINE_HEAD = b"# SDF\nint cube_bits = 29;\nstruct {int32_t x, y, z, mass;}[];\n# SDF-EOH\n"
+CELL = struct.pack("<8i", 1024, 0, 0, 4194304, 1280, 256, 256, 4194304)
+AT_SIDE = FINE_HEAD + struct.pack("<4i", 640, 128, 128, 1) + CELL
+PAST_SIDE = FINE_HEAD + struct.pack("<4i", 639, 128, 128, 1) + CELL
+
+NO_NUMBERS = "1.5.2 0x1.5 1_ 1e 1e+ . .e5 + - 0x 0xg 00x1 12a --1 +-1 1..2 -9223372036854775809".split()
+NUMBERS = "5. .5 5.e3 -.5E-2 0X1f +0x1E 1e99999 -9223372036854775808 18446744073709551615 0000000000000000000000001".split()
+BAD_PARAMETERS = [
+    "int cube_bits = 0;",
+    "int cube_bits = 30;",
+    "int mass = 0;",
+    "int mass = 4194305;",
+    "parameter byteorder = 0x12345679;",
+    "int byteorder = 0;",
+    "parameter cube_x0 = word;",
+    'parameter cube_y0 = "1";',
+    'char cube_z0 [] = "1";',
+]
+BAD_VALUES = {
+    "--theta": "1/0 1025/1 1/1025 1/1/1 1/1/ /1 1/ / 1 -1/1 +1/1 0x1/1".split(),
+    "--eps": ["0", "268435457", "-1", "+1", "1.0", "", " 1", "000000000000000000001", "18446744073709551616", "٣", "--leaf"],
+    "--leaf": ["0", "65"],
+    "--ranks": ["0", "65"],
+    "--mail": ["Prompt", "prompts", "", "18446744073709551616", "-1"],
+    "--form": ["Text", "binary", "", "0"],
+}
+GOOD_VALUES = {
+    "--theta": ["0/1", "1024/1024", "1/1024", "00000000000000000001/01"],
+    "--eps": ["1", "268435456", "00000000000000000001"],
+    "--leaf": ["1", "64"],
+    "--ranks": ["1"],
+    "--mail": ["prompt"],
+    "--form": ["text"],
+}
+LATER = """split;split nowhere;split --ranks 64;make;make --bodies 262144 --seed 18446744073709551615;sample --leaf 1;forces --ranks 2
+forces --ranks 64;forces --mail last;forces --mail single;forces --mail 0;forces --mail 18446744073709551615
+forces --form sdf;forces --report;forces --report nowhere""".replace("\n", ";").split(";")
+WORK = "# SDF\nint mass = 3; struct {int8_t x, y, z; int64_t work;}[1];\n# SDF-EOH\n".encode() + b"\0\0\0"
+
+# words, standard input, status, output or text of refusal
+WORKED = [
+    ("forces", file_of(BARE), 0, forces()),
+    ("forces", file_of(BARE, (7, 8, 9)), 0, forces("0 0 0 0")),
+    ("forces --eps 1 --theta 0/1", TWO, 0, forces("0 3145725 0 0", "1 -1048575 0 0")),
+    ("forces --eps 1 --theta 0/1", TWO_MOST, 0, forces("0 3145725 0 0", "1 -1048575 0 0")),
+    (
+        "forces --eps 1 --leaf 1 --theta 1/1",
+        THREE,
+        0,
+        forces("0 127 0 0", "1 70367402021887 0 0", "2 -70367402021887 0 0"),
+    ),
+    (
+        "forces --eps 1 --leaf 1 --theta 0/1",
+        THREE,
+        0,
+        forces("0 126 0 0", "1 70367402021887 0 0", "2 -70367402021887 0 0"),
+    ),
+    ("forces --eps 1 --leaf 1 --theta 1/1", SAME, 0, forces("0 127 0 0", "1 0 0 0", "2 0 0 0")),
+    (
+        "forces --ranks 1",
+        file_of(BARE, (0, 0, 0), (1, 0, 0), (2, 0, 0)),
+        0,
+        forces("0 8932854 0 0", "1 0 0 0", "2 -8932854 0 0"),
+    ),
+    (
+        "forces --eps 1 --leaf 1 --theta 1/1",
+        AT_SIDE,
+        0,
+        forces(
+            "0 33177081949915 -5708926649317 -5708926649317",
+            "1 13542388587101 13542395944902 13542395944902",
+            "2 -13542396497133 -13542394583788 -13542394583788",
+        ),
+    ),
+    (
+        "forces --eps 1 --leaf 1 --theta 1/1",
+        PAST_SIDE,
+        0,
+        forces(
+            "0 35047201568775 0 0",
+            "1 13542388607961 13542395933189 13542395933189",
+            "2 -13542396490500 -13542394581717 -13542394581717",
+        ),
+    ),
+    (
+        "forces --eps 1 --theta 1024/1",
+        file_of(MASS, (0, 0, 0, 4194304), (2097151, 0, 0, 4194304)),
+        0,
+        forces("0 16 0 0", "1 -16 0 0"),
+    ),
+    ("forces", FLOAT_X, 3, "H11 column x is not whole"),
+    ("forces", file_of(BARE, (2097152, 0, 0)), 3, "B3 row 0 outside the cube on x"),
+    ("forces", file_of(BARE, (2097151, 0, 0)), 0, forces("0 0 0 0")),
+    ("forces", file_of(MASS, (0, 0, 0, 0)), 3, "B4 row 0 mass out of range"),
+    ("forces", file_of(MASS, (0, 0, 0, 4194305)), 3, "B4 row 0 mass out of range"),
+    ("forces", file_of(MASS, (0, 0, 0, 4194304)), 0, forces("0 0 0 0")),
+    ("forces", TWO[:-1], 3, "B1 row 1 is cut short"),
+    ("forces", TWO + b"\0", 3, "B2 bytes after the last row"),
+    ("forces --eps 1", CONVERTER + converter_rows(bytes(16)), 0, forces("900 2097150 0 0", "17 -2097150 0 0")),
+    ("forces --eps 1", CONVERTER + converter_rows(b"\xff" * 16), 0, forces("900 2097150 0 0", "17 -2097150 0 0")),
+    (
+        "forces --eps 1",
+        file_of(BARE, (0, 0, 0), (1, 2, 2)),
+        0,
+        forces("0 621377 1242754 1242754", "1 -621377 -1242754 -1242754"),
+    ),
+    ("forces", header_of("int x = ;"), 3, "H4 syntax at 14"),
+    ("forces", header_of("long n = 1;"), 3, "H5 unknown type at 6"),
+    ("forces", header_of(""), 3, "H8 no struct"),
+    ("forces", b"", 3, "H1 not an SDF file"),
+    ("forces", b"# SDF", 3, "H3 header has no end"),
+    ("forces", file_of(BARE, count=262145), 3, "H13 too many rows 262145"),
+    ("forces", header_of(struct_of("char c[1021];")), 0, forces()),
+    refused_at("H9 row too wide", struct_of("char ^c[1022];")),
+    refused_at("H9 row too wide", struct_of("char ^c[1024 @")),
+    refused_at("H4 syntax", struct_of("char c[^1025];")),
+    refused_at("H4 syntax", struct_of("char c[^0x];")),
+    ("forces", header_of(struct_of("char " + ", ".join(f"c{k}" for k in range(61)) + ";")), 0, forces()),
+    refused_at("H9 row too wide", struct_of("char " + ", ".join(f"c{k}" for k in range(61)) + ", ^d[0];")),
+    refused_at("H6 name twice", struct_of("char " + ", ".join(f"c{k}" for k in range(61)) + ", ^x;")),
+    refused_at("H6 name twice", "int n = 1; parameter ^n = ;"),
+    refused_at("H7 second struct", struct_of("") + "^struct"),
+    refused_at("H5 unknown type", "^unsigned @;"),
+    refused_at("H5 unknown type", "struct {^parameter n = 1;"),
+    refused_at("H4 syntax", f'char a[] = ^"{"t" * 4097}";'),
+    ("forces", header_of(f'char a[] = "{"t" * 4096}";'), 3, "H8 no struct"),
+    refused_at("H4 syntax", "float a = ^18446744073709551616;"),
+    refused_at("H4 syntax", "float a = 0x1e^+2;"),
+    *[refused_at("H4 syntax", f'{kind} a ^[] = "";') for kind in ("int8_t", "unsigned char", "float", "parameter")],
+    *[refused_at("H4 syntax", f"char a[{rest};") for rest in ("] = ^", "] = ^1", "^-1] = 1", "^1.0] = 1", "16^")],
+    *[refused_at("H4 syntax", f"struct {{}}[{rest}") for rest in ("^-1];", "^1.0];", "^x];", "1^;", "1] ^x")],
+    ("forces", header_of("struct {}[0]"), 3, "H4 syntax at 19"),
+    refused_at("H4 syntax", "float a = 1; ^/*/ float b = 2;"),
+    refused_at("H4 syntax", "^/ float b = 2;"),
+    refused_at("H5 unknown type", "float a = 1; ^unsigned long b = 2;"),
+    *[("forces", header_of(struct_of("") + f"int cube_bits = {n};"), 0, forces()) for n in ("1", "29")],
+    *[("forces", header_of(struct_of("") + f"int mass = {n};"), 0, forces()) for n in ("1", "4194304")],
+    *[("forces", header_of(struct_of("") + text), 3, f"H12 bad parameter {text.split()[1]}") for text in BAD_PARAMETERS],
+    *[refused_at("H4 syntax", f"float a = ^{number};") for number in NO_NUMBERS],
+    *[("forces", header_of(f"float a = {number};"), 3, "H8 no struct") for number in NUMBERS],
+    ("forces", b"# SDF\n" + b"#" * 65529, 3, "H3 header has no end"),
+    ("forces", b"# SDF\n" + b"#" * 65530, 3, "H2 header longer than 65536 bytes"),
+    ("forces", b"# SDF\n" + b"#" * 65522 + b"SDF-EOH\n", 3, "H8 no struct"),
+    ("forces", b"# SDF\n" + b"#" * 65523 + b"SDF-EOH\n", 3, "H2 header longer than 65536 bytes"),
+    ("forces", header_of("struct {int8_t x, y; short z[1];}[];"), 3, "H10 column z is missing"),
+    ("forces", header_of(struct_of("double work;") + "int cube_bits = 30;"), 3, "H11 column work is not whole"),
+    ("forces", header_of(struct_of("float work, ident, mass;")), 3, "H11 column mass is not whole"),
+    ("forces", header_of(struct_of("") + "int mass = 0; float cube_bits = 21.0;"), 3, "H12 bad parameter cube_bits"),
+    ("forces", header_of(struct_of("short mass;") + "int mass = 0;"), 0, forces()),
+    ("", b"", 2, "A1 no command"),
+    ("weigh", b"", 2, "A2 unknown command weigh"),
+    ("split --theta 1/1", b"", 2, "A3 unknown option --theta"),
+    ("forces --theta", b"", 2, "A4 no value for --theta"),
+    ("forces --leaf 8 --leaf 8", b"", 2, "A5 option given twice --leaf"),
+    ("forces --leaf 8 --leaf", b"", 2, "A5 option given twice --leaf"),
+    ("forces --ranks 0 f", b"", 2, "A6 bad value 0 for --ranks"),
+    ("forces a b", b"", 2, "A7 extra word a"),
+    ("make", b"", 2, "A0 words of a later stage"),
+    ("forces nowhere", b"", 4, "read fault"),
+    *[
+        (["forces", option, value], b"", 2, f"A6 bad value {value} for {option}")
+        for option, values in BAD_VALUES.items()
+        for value in values
+    ],
+    *[
+        (["forces", option, value], file_of(BARE), 0, forces())
+        for option, values in GOOD_VALUES.items()
+        for value in values
+    ],
+    *[(words, b"", 2, "A0 words of a later stage") for words in LATER],
+    ("make --bodies 262145", b"", 2, "A6 bad value 262145 for --bodies"),
+    ("make --seed 18446744073709551616", b"", 2, "A6 bad value 18446744073709551616 for --seed"),
+    ("make -", b"", 2, "A7 extra word -"),
+    ("sample --mail", b"", 2, "A4 no value for --mail"),
+    ("sample --form sdf", b"", 2, "A3 unknown option --form"),
+    ("forces --report --report", b"", 2, "A5 option given twice --report"),
+    ("forces - --eps", b"", 2, "A7 extra word -"),
+    ("forces -", file_of(BARE), 0, forces()),
+    (["forces", ""], file_of(BARE), 4, "read fault"),
+    ("forces --help", b"", 2, "A3 unknown option --help"),
+    ("--help", b"", 2, "A2 unknown command --help"),
+    ("forces", file_of(MASS, (-1, -1, 0, 0)), 3, "B3 row 0 outside the cube on x"),
+    ("forces", file_of(MASS, (0, -1, -1, 0)), 3, "B3 row 0 outside the cube on y"),
+    ("forces", file_of(MASS, (0, 0, -1, 0)), 3, "B3 row 0 outside the cube on z"),
+    ("forces", file_of(MASS, (0, 0, 0, 1), (0, 0, 2097152, 0))[:-1], 3, "B1 row 1 is cut short"),
+    ("forces", WORK + (2**32 - 1).to_bytes(8, "little"), 0, forces("0 0 0 0")),
+    ("forces", WORK + (2**32).to_bytes(8, "little"), 3, "B5 row 0 work out of range"),
+    ("forces", WORK + b"\xff" * 8, 3, "B5 row 0 work out of range"),
+]
+
+
+def worked():
+    """Each worked case: words, standard input, and the three answers."""
+    for words, data, status, told in WORKED:
+        out, err = (told, "") if status == 0 else ("", f"hot: {told}\n")
+        yield words.split() if isinstance(words, str) else words, data, (status, out.encode(), err.encode())

@@ -1,0 +1,89 @@
+"""The force of gravity on each body by one recursive walk (docs/MODEL.md), in plain whole numbers."""
+
+import math
+
+LEVELS = 21
+FINE_BITS = 29
+
+
+def key_of(place):
+    x, y, z = place
+    key = 1
+    for level in range(1, LEVELS + 1):
+        bit = FINE_BITS - level
+        key = 8 * key + 4 * (x >> bit & 1) + 2 * (y >> bit & 1) + (z >> bit & 1)
+    return key
+
+
+def level_of(cell):
+    return (cell.bit_length() - 1) // 3
+
+
+def contains(cell, key):
+    return key >> 3 * (LEVELS - level_of(cell)) == cell
+
+
+def pull(p, c, mass, eps):
+    gap = [ci - pi for pi, ci in zip(p, c)]
+    r2 = sum(g * g for g in gap) + eps * eps
+    s = math.isqrt(r2 << 20)
+    sizes = [(mass * abs(g) << 50) // (r2 * s) for g in gap]
+    return [size if g >= 0 else -size for g, size in zip(gap, sizes)]
+
+
+def accepts(key, p, cell, centre, ratio):
+    if contains(cell, key):
+        return False
+    side = 1 << FINE_BITS - level_of(cell)
+    distance2 = sum((ci - pi) ** 2 for pi, ci in zip(p, centre))
+    num, den = ratio
+    return side * side * den * den < num * num * distance2
+
+
+def add(a, b):
+    return [i + j for i, j in zip(a, b)]
+
+
+class Walk:
+    """The recursion over one list of bodies. Each cell is filtered out of its parent once."""
+
+    def __init__(self, bodies, eps, ratio, leaf):
+        self.keyed = [(key_of(b.place), b) for b in bodies]
+        self.eps, self.ratio, self.leaf = eps, ratio, leaf
+        self.cells = {}
+
+    def inside(self, cell):
+        """The bodies of a cell, its mass and its centre."""
+        if cell not in self.cells:
+            within = self.keyed if cell == 1 else self.inside(cell >> 3)[0]
+            pairs = [pair for pair in within if contains(cell, pair[0])]
+            mass = sum(b.mass for _, b in pairs)
+            centre = [sum(b.mass * b.place[i] for _, b in pairs) // mass for i in range(3)] if pairs else None
+            self.cells[cell] = pairs, mass, centre
+        return self.cells[cell]
+
+    def force(self, key, p, cell=1):
+        """The force on the body at `p` from a cell."""
+        pairs, mass, centre = self.inside(cell)
+        if not pairs:
+            return [0, 0, 0]
+        if accepts(key, p, cell, centre, self.ratio):
+            return pull(p, centre, mass, self.eps)
+        total = [0, 0, 0]
+        if len(pairs) <= self.leaf or level_of(cell) == LEVELS:
+            for _, b in pairs:
+                total = add(total, pull(p, b.place, b.mass, self.eps))
+            return total
+        for digit in range(8):
+            total = add(total, self.force(key, p, 8 * cell + digit))
+        return total
+
+
+def forces_text(bodies, eps, ratio, leaf):
+    walk = Walk(bodies, eps, ratio, leaf)
+    lines = ["# hot forces 1"]
+    for key, b in walk.keyed:
+        ax, ay, az = walk.force(key, b.place)
+        lines.append(f"{b.ident} {ax} {ay} {az}")
+    lines.append(f"# end {len(bodies)}")
+    return "\n".join(lines) + "\n"
