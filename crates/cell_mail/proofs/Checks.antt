@@ -1,5 +1,6 @@
 -- What the tests of a reader say.
-use Rattle.std.proofs.Common.{◌≡◌, ℕ, zero, suc, ◌+◌, ◌*◌, ◌/◌, ◌^◌, ◌<◌, ◌≤◌, Bool, true, false, eqb, leb, ltb, ◌&&◌, ◌||◌, ◌⊎◌, add-one, refl, arith, inl, inr}
+use Rattle.std.specs.Prelude.{IsTrue, ◌↔◌}
+use Rattle.std.proofs.Common.{sym, ◌≡◌, ℕ, zero, suc, ◌+◌, ◌*◌, ◌/◌, ◌^◌, ◌<◌, ◌≤◌, Bool, true, false, eqb, leb, ltb, ◌&&◌, ◌||◌, ◌⊎◌, refl, arith, inl, inr}
 use Rattle.std.proofs.Math.Nat.{div-eq_of_lt-le, div-mul-le_self, lt-div-mul-add}
 use Rattle.std.proofs.lemmas.Bool.{cases_lt, le-leb, lt-leb, lt-ltb, le-ltb, eq-eqb, eqb-true}
 use Rattle.hot_model.specs.Limits.{fine_bits, max_level, max_body_mass}
@@ -127,8 +128,8 @@ is_sent-facts x y z mass row e = let h = is_sent-is (record { x = x; y = y; z = 
 
 -- a test that says what a cell is gives the same as the reader's
 pub is_cell-same : (b : Bool) (k : ℕ) → IsTrue b ↔ IsCell k → b ≡ is_cell k
-is_cell-same true k h = sym (is_cell-back k (h.0 tt))
+is_cell-same true k h = sym (is_cell-back k (h.0 refl))
 is_cell-same false k h = elim (is_cell k) as (λ (c : Bool). is_cell k ≡ c → false ≡ c) [
-  | true ↦ λ e. absurd (h.1 (is_cell-is k e))
+  | true ↦ λ e. let f : false ≡ true = h.1 (is_cell-is k e) in absurd cc
   | false ↦ λ e. refl
 ] refl

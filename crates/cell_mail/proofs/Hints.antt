@@ -1,7 +1,7 @@
 -- The lemmas that functions name.
 use Rattle.hot_model.proofs.Digits.{two_pow_three}
 use Rattle.cell_mail.proofs.Letters.{is_letter, spelled-is}
-use Rattle.cell_mail.proofs.Laws.{one_spelling, one_content}
+use Rattle.cell_mail.proofs.LetterLaws.{one_spelling, one_content}
 use Rattle.cell_mail.proofs.Checks.{is_cell-same, is_record-facts, is_sent-facts, below_root-is}
 
 pub ruleset on_cells = (is_cell-same)

@@ -1,4 +1,4 @@
-ghost use Rattle.std.specs.Prelude.{◌≡◌, ◌×◌, ◌++◌, length, IfOk, Err};
+ghost use Rattle.std.specs.Prelude.{◌≡◌, ◌++◌, length, IfOk, Err};
 ghost use Rattle.std.specs.List.{slice_get};
 ghost use Rattle.cell_mail.specs.declared.content.Content.{Content};
 ghost use Rattle.cell_mail.specs.declared.content.Content.TheVariants as content;

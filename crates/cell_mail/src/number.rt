@@ -7,7 +7,7 @@ use byteorder::{ByteOrder, LittleEndian};
 use std::alloc::AllocError;
 
 /// The number of one byte at the front, and the bytes after it.
-#[tactic(auto, using(crate::proofs::Numbers::on_reading), unfolding(crate::specs::Reading::number_at))]
+#[tactic(auto, unfolding(crate::specs::Reading::number_at))]
 pub(crate) fn u8_at(bytes: &[u8]) -> Result<(u8, &[u8]), LetterError>
     ensures { Gives (λ x. (x.0, x.1.now)) result (number_at 1 bytes.now) }
 {
@@ -18,7 +18,7 @@ pub(crate) fn u8_at(bytes: &[u8]) -> Result<(u8, &[u8]), LetterError>
 }
 
 /// The number of four bytes at the front, and the bytes after them.
-#[tactic(auto, using(crate::proofs::Numbers::on_reading), unfolding(crate::specs::Reading::number_at))]
+#[tactic(auto, unfolding(crate::specs::Reading::number_at))]
 pub(crate) fn u32_at(bytes: &[u8]) -> Result<(u32, &[u8]), LetterError>
     ensures { Gives (λ x. (x.0, x.1.now)) result (number_at 4 bytes.now) }
 {
@@ -29,7 +29,7 @@ pub(crate) fn u32_at(bytes: &[u8]) -> Result<(u32, &[u8]), LetterError>
 }
 
 /// The number of eight bytes at the front, and the bytes after them.
-#[tactic(auto, using(crate::proofs::Numbers::on_reading), unfolding(crate::specs::Reading::number_at))]
+#[tactic(auto, unfolding(crate::specs::Reading::number_at))]
 pub(crate) fn u64_at(bytes: &[u8]) -> Result<(u64, &[u8]), LetterError>
     ensures { Gives (λ x. (x.0, x.1.now)) result (number_at 8 bytes.now) }
 {
@@ -40,7 +40,7 @@ pub(crate) fn u64_at(bytes: &[u8]) -> Result<(u64, &[u8]), LetterError>
 }
 
 /// The number of sixteen bytes at the front, and the bytes after them.
-#[tactic(auto, using(crate::proofs::Numbers::on_reading), unfolding(crate::specs::Reading::number_at))]
+#[tactic(auto, unfolding(crate::specs::Reading::number_at))]
 pub(crate) fn u128_at(bytes: &[u8]) -> Result<(u128, &[u8]), LetterError>
     ensures { Gives (λ x. (x.0, x.1.now)) result (number_at 16 bytes.now) }
 {
@@ -59,7 +59,6 @@ pub(crate) fn put_u8(out: &mut Vec<u8>, n: u8) -> Result<(), AllocError>
 }
 
 /// Writes four bytes at the end, the least of them first.
-#[tactic(auto, using(crate::proofs::Numbers::on_writing))]
 pub(crate) fn put_u32(out: &mut Vec<u8>, n: u32) -> Result<(), AllocError>
     ensures { OnOk result (out.new.items ≡ out.old.items ++ number 4 n) }
 {
@@ -69,7 +68,6 @@ pub(crate) fn put_u32(out: &mut Vec<u8>, n: u32) -> Result<(), AllocError>
 }
 
 /// Writes eight bytes at the end, the least of them first.
-#[tactic(auto, using(crate::proofs::Numbers::on_writing))]
 pub(crate) fn put_u64(out: &mut Vec<u8>, n: u64) -> Result<(), AllocError>
     ensures { OnOk result (out.new.items ≡ out.old.items ++ number 8 n) }
 {
@@ -79,7 +77,6 @@ pub(crate) fn put_u64(out: &mut Vec<u8>, n: u64) -> Result<(), AllocError>
 }
 
 /// Writes sixteen bytes at the end, the least of them first.
-#[tactic(auto, using(crate::proofs::Numbers::on_writing))]
 pub(crate) fn put_u128(out: &mut Vec<u8>, n: u128) -> Result<(), AllocError>
     ensures { OnOk result (out.new.items ≡ out.old.items ++ number 16 n) }
 {
@@ -89,7 +86,6 @@ pub(crate) fn put_u128(out: &mut Vec<u8>, n: u128) -> Result<(), AllocError>
 }
 
 /// Writes the four lowest bytes of a count at the end, the least of them first.
-#[tactic(auto, using(crate::proofs::Numbers::on_writing))]
 pub(crate) fn put_count(out: &mut Vec<u8>, n: usize) -> Result<(), AllocError>
     ensures { OnOk result (out.new.items ≡ out.old.items ++ number 4 n) }
 {
