@@ -89,7 +89,10 @@ fn is_good_answer(key: u64, answer: &Answer) -> bool
     match answer {
         Answer::Children(cells) => {
             let cells = cells.as_slice();
-            1 <= cells.len() && cells.len() <= MAX_CHILDREN && rise(cells) && are_children(key, cells)
+            1 <= cells.len()
+                && cells.len() <= MAX_CHILDREN
+                && rise(cells)
+                && are_children(key, cells)
         }
         Answer::Bodies(bodies) => {
             let bodies = bodies.as_slice();

@@ -9,11 +9,14 @@ pub const VERSION: u8 = 1;
 
 /// The kinds of letters.
 pub const BRANCHES: u8 = 1;
+
 pub const ASKS: u8 = 2;
+
 pub const ANSWERS: u8 = 3;
 
 /// The tags of answers.
 pub const CHILDREN: u8 = 1;
+
 pub const BODIES: u8 = 2;
 
 /// The most children of a cell.
