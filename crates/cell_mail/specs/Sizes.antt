@@ -33,20 +33,23 @@ sum_size = 16
 abbrev pub field_size : ℕ
 field_size = 4
 
--- the kinds of letters
+-- the kind of a branches letter
 abbrev pub branches_kind : ℕ
 branches_kind = 1
 
+-- the kind of an asks letter
 abbrev pub asks_kind : ℕ
 asks_kind = 2
 
+-- the kind of an answers letter
 abbrev pub answers_kind : ℕ
 answers_kind = 3
 
--- the tags of answers
+-- the tag of an answer with children
 abbrev pub children_tag : ℕ
 children_tag = 1
 
+-- the tag of an answer with bodies
 abbrev pub bodies_tag : ℕ
 bodies_tag = 2
 
