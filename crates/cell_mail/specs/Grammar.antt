@@ -1,5 +1,5 @@
 -- The grammar of letters: which contents have a spelling, and which bytes spell them.
-use Rattle.std.specs.Prelude.{ℕ, ◌≡◌, ◌<◌, ◌≤◌, ◌-◌, ◌/◌, ◌^◌, Bool, true, not, ltb, leb, eqb, ◌&&◌, ◌||◌, List, [], ◌∷◌, length, map, Option, Some, None}
+use Rattle.std.specs.Prelude.{ℕ, ◌≡◌, ◌<◌, ◌≤◌, ◌^◌, Bool, true, not, ltb, leb, eqb, ◌&&◌, ◌||◌, List, [], ◌∷◌, length, map, Option, Some, None}
 use Rattle.std.specs.List.{AllByRecursion, list_all}
 use Rattle.hot_model.specs.Limits.{fine_bits, max_level, max_bodies, max_body_mass, max_leaf}
 use Rattle.hot_model.specs.Values.{BodyValue, CellValue}
