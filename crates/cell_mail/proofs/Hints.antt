@@ -1,0 +1,19 @@
+-- The lemmas that functions name.
+use Rattle.hot_model.proofs.Digits.{two_pow_three}
+use Rattle.cell_mail.proofs.Letters.{is_letter, spelled-is}
+use Rattle.cell_mail.proofs.LetterLaws.{one_spelling, one_content}
+use Rattle.cell_mail.proofs.Checks.{is_cell-same, is_record-facts, is_sent-facts, below_root-is}
+
+pub ruleset on_cells = (is_cell-same)
+
+pub ruleset on_records = (is_record-facts)
+
+pub ruleset on_bodies = (is_sent-facts)
+
+pub ruleset on_items = (below_root-is)
+
+pub ruleset on_letters = (is_letter, spelled-is)
+
+pub ruleset on_laws = (one_spelling, one_content)
+
+pub ruleset on_passes = (two_pow_three)

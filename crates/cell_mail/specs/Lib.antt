@@ -1,0 +1,7 @@
+pub mod Sizes
+pub mod Spelling
+pub mod Grammar
+pub mod Reading
+pub mod Letters
+pub mod Merging
+pub mod Laws

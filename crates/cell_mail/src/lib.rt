@@ -1,0 +1,21 @@
+//! Letters between ranks, as bytes: the branches of a rank, asks for cells, and answers for them (the messages of a
+//! parallel hashed oct-tree, after Warren and Salmon, 1993). A content has one spelling, and bytes that came from outside
+//! are read as a letter or refused.
+#![tactic(auto)]
+
+mod answer;
+mod content;
+mod entry;
+mod keyed;
+mod laws;
+mod letter;
+mod limits;
+mod number;
+mod parts;
+mod reading;
+#[cfg(test)]
+mod tests;
+
+pub use content::{Content, Kind, LetterError};
+pub use laws::{one_content, one_spelling};
+pub use letter::Letter;
