@@ -1,0 +1,12 @@
+use Rattle.std.proofs.Common.{◌≡◌, ◌≤◌, length}
+use Rattle.round_runner.specs.Desk.{letters_in, rounds_in}
+use Rattle.round_runner.specs.declared.wire.Turn.TheVariants as turns
+use Rattle.round_runner.proofs.tests.end_round.Given as goal
+
+abbrev pub invariant-loop-letter : goal.invariant-loop-letter
+invariant-loop-letter g l =
+    ((g.W.Wire.desk l.wire).turn ≡ turns.Free)
+    × (rounds_in (g.W.Wire.desk l.wire).log ≤ letters_in (g.W.Wire.desk l.wire).log)
+
+abbrev pub decreases-loop-letter : goal.decreases-loop-letter
+decreases-loop-letter g l = length (g.W.Wire.desk l.wire).pending

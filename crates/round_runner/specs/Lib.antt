@@ -1,0 +1,4 @@
+pub mod Notes
+pub mod Desk
+pub mod Draws
+pub mod Policies

@@ -1,0 +1,20 @@
+//! What carries letters between ranks, with a log of what happened, and what ranks enter before they step.
+//!
+//! After the schedules of a model of message passing: which letter comes next, and how many come in a round, is the
+//! wire's choice, and whoever uses a wire meets its contract under every choice.
+#![tactic(auto)]
+
+mod draw;
+mod entry;
+mod gate;
+mod log;
+mod mem_wire;
+#[cfg(test)]
+mod tests;
+mod wire;
+
+pub use entry::{Entry, Note};
+pub use gate::{Gate, OpenGate};
+pub use log::Log;
+pub use mem_wire::MemWire;
+pub use wire::{PostRefused, Wire};
