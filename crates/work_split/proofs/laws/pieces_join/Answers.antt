@@ -1,0 +1,5 @@
+use Rattle.work_split.proofs.Cuts as cuts
+use Rattle.work_split.proofs.laws.pieces_join.Goals as goal
+
+pub returns : goal.returns
+returns c = record { law = cuts.pieces_join }

@@ -1,0 +1,10 @@
+use Rattle.std.proofs.Common.{suc, ◌≡◌, map}
+use Rattle.hot_model.specs.Branches.{numbers_below}
+use Rattle.work_split.specs.Splits.{world_of, start}
+use Rattle.work_split.proofs.pieces.split.Given as goal
+
+abbrev pub invariant-loop-count : goal.invariant-loop-count
+invariant-loop-count l = record {
+  at : l.at ≡ start (world_of l.set l.ranks) l.count-index;
+  starts : l.starts.items ≡ map (start (world_of l.set l.ranks)) (numbers_below (suc l.count-index));
+}

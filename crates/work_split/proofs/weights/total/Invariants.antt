@@ -1,0 +1,10 @@
+use Rattle.std.proofs.Common.{◌≡◌, ◌*◌, ◌≤◌, take, sum_by}
+use Rattle.hot_model.specs.Limits.{max_work}
+use Rattle.hot_model.specs.Split.{weight_in}
+use Rattle.work_split.proofs.weights.total.Given as goal
+
+abbrev pub invariant-loop-b : goal.invariant-loop-b
+invariant-loop-b l = record {
+  value : l.sum ≡ sum_by (weight_in l.weights) (take l.b-index l.bodies);
+  within : l.sum ≤ l.b-index * max_work;
+}
