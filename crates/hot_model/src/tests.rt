@@ -1,4 +1,4 @@
-use crate::{Answer, AnswerList, Answered, BodyList, KeyList, body_of};
+use crate::{Answer, AnswerList, Answered, BodyList, CellRec, KeyList, RecList, body_of};
 use std::test::Fail;
 
 #[test]
@@ -21,6 +21,32 @@ fn lists_grow_at_their_end(rt: HostRuntime) -> Result<(), Fail> {
         answer: Answer::Bodies(BodyList::new(rt.alloc())),
     })?;
     assert_eq!(rt; answers.len(), 1);
+    assert_eq!(rt; answers.get(0).map(|a| a.key), Some(12));
+    assert_eq!(rt; answers.pop().map(|a| a.key), Some(12));
+    assert_eq!(rt; answers.get(0).map(|a| a.key), None);
+    let mut records = RecList::new(rt.alloc());
+    records.push(CellRec::new(9, 1, 2, 6, 8, 10))?;
+    assert_eq!(rt;
+        records.get(0).map(|r| (r.key, r.centre())),
+        Some((9, [3, 4, 5]))
+    );
+    assert_eq!(rt; records.pop().map(|r| r.mass), Some(2));
+    assert_eq!(rt; records.pop().map(|r| r.mass), None);
+    Ok(())
+}
+
+#[test]
+fn lists_of_bodies(rt: HostRuntime) -> Result<(), Fail> {
+    let mut bodies = BodyList::new(rt.alloc());
+    for (x, mass) in [(5, 2), (6, 3)] {
+        if let Some(body) = body_of(x, 0, 0, mass, 1) {
+            bodies.push(body)?;
+        }
+    }
+    assert_eq!(rt; bodies.get(1).map(|b| (b.x, b.mass)), Some((6, 3)));
+    assert_eq!(rt; bodies.get(2).map(|b| b.mass), None);
+    assert_eq!(rt; bodies.pop().map(|b| b.mass), Some(3));
+    assert_eq!(rt; bodies.len(), 1);
     Ok(())
 }
 

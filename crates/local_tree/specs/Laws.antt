@@ -1,9 +1,12 @@
 -- What a piece and its two neighbouring keys tell of all bodies.
-use Rattle.std.specs.Prelude.{ℕ, ◌≡◌, ◌<◌, ◌↔◌, true, length}
+use Rattle.std.specs.Prelude.{ℕ, ◌≡◌, ◌<◌, ◌↔◌, true, List, length, Contains}
+use Rattle.std.specs.List.Sorted.{IsStrictlyIncreasing}
+use Rattle.hot_model.specs.Values.{BodyValue}
+use Rattle.hot_model.specs.Order.{IsInOrder}
 use Rattle.hot_model.specs.Keys.{IsCell}
 use Rattle.hot_model.specs.Trees.{inside, cell_record}
 use Rattle.hot_model.specs.World.{World, IsGood, piece, left_of, right_of, bodies_in}
-use Rattle.hot_model.specs.Branches.{IsOfRank, branch_records}
+use Rattle.hot_model.specs.Branches.{IsOfRank, IsBranch, cells, branches, branch_records}
 use Rattle.hot_model.specs.Answers.{answer_at, true_answer}
 use Rattle.hot_model.specs.Homes.{is_home, home_branches}
 
@@ -24,3 +27,21 @@ OwnCellsAreWhole = (w : World) (q c : ℕ) → IsCell c → IsOfRank w q c → I
 -- the outermost own cells of a piece are the branches of its rank, with their records over all bodies
 abbrev pub HomesGiveBranches : Type 0
 HomesGiveBranches = (w : World) (q : ℕ) → IsGood w → home_branches (piece w q) (left_of w q) (right_of w q) ≡ branch_records w q
+
+-- the cells with bodies of a list in order ascend strictly, and each such cell is there
+pub record AreAllCells (bodies : List BodyValue) : Type 0 where
+  pub ascend : IsStrictlyIncreasing (cells bodies)
+  pub all : (k : ℕ) → Contains (cells bodies) k ↔ (IsCell k × (0 < length (inside bodies k)))
+
+-- this holds of every list in order
+abbrev pub CellsAreListed : Type 0
+CellsAreListed = (bodies : List BodyValue) → IsInOrder bodies → AreAllCells bodies
+
+-- the listed branches of a rank ascend strictly, and each branch cell is there
+pub record AreAllBranches (w : World) (q : ℕ) : Type 0 where
+  pub ascend : IsStrictlyIncreasing (branches w q)
+  pub all : (c : ℕ) → Contains (branches w q) c ↔ IsBranch w q c
+
+-- this holds of every rank of a good world
+abbrev pub BranchesAreListed : Type 0
+BranchesAreListed = (w : World) (q : ℕ) → IsGood w → AreAllBranches w q

@@ -17,3 +17,14 @@ pub fn own_cells_are_whole()
 pub fn homes_give_branches()
     ensures law { laws.HomesGiveBranches }
 {}
+
+/// The list of the cells that have bodies, level by level, has each of them once, by strictly ascending key.
+pub fn cells_are_listed()
+    ensures law { laws.CellsAreListed }
+{}
+
+/// The list of the branches of a rank has each of its branch cells once, by strictly ascending key: each cell with
+/// bodies, all of the rank, that is the root or whose parent has a body of another rank.
+pub fn branches_are_listed()
+    ensures law { laws.BranchesAreListed }
+{}

@@ -13,5 +13,7 @@ mod sums;
 mod tests;
 mod tree;
 
-pub use laws::{homes_are_own, homes_give_branches, own_cells_are_whole};
+pub use laws::{
+    branches_are_listed, cells_are_listed, homes_are_own, homes_give_branches, own_cells_are_whole,
+};
 pub use tree::LocalTree;

@@ -72,17 +72,20 @@ fn home_is(rt: &impl Abort, tree: &LocalTree, key: u64, want: bool) {
     assert_eq!(rt; tree.is_home(key), want, "home {key}");
 }
 
-/// The answer for an own cell is this many bodies, or these records of children.
-fn answer_is(rt: &impl Abort, tree: &LocalTree, key: u64, bodies: usize, children: &[Numbers]) {
+/// The answer for an own cell is bodies of these masses, or these records of children.
+fn answer_is(rt: &impl Abort, tree: &LocalTree, key: u64, masses: &[u32], children: &[Numbers]) {
     assert!(rt; is_cell(key));
     assert!(rt; tree.is_home(key));
     match tree.answer(key).expect(rt, "memory") {
         Answer::Bodies(list) => {
-            assert_eq!(rt; list.len(), bodies);
+            assert_eq!(rt; list.len(), masses.len());
+            for (b, mass) in list.as_slice().iter().zip(masses.iter()) {
+                assert_eq!(rt; b.mass, *mass);
+            }
             assert_eq!(rt; children.len(), 0);
         }
         Answer::Children(list) => {
-            assert_eq!(rt; bodies, 0);
+            assert_eq!(rt; masses.len(), 0);
             records_are(rt, &list, children);
         }
     }
@@ -100,13 +103,18 @@ fn two_bodies_alone(rt: HostRuntime) {
     masses_are(&rt, &tree, 15, &[]);
     home_is(&rt, &tree, 1, true);
     home_is(&rt, &tree, 15, false);
-    answer_is(&rt, &tree, 1, 2, &[]);
+    answer_is(&rt, &tree, 1, &[1, 3], &[]);
     branches_are(&rt, &tree, &[(1, 2, 4, 3072, 0, 0)]);
     let fine = tree_of(rt.alloc(), &rows, None, None, 1).expect(&rt, "memory");
     rec_is(&rt, &fine, 8, Some((8, 2, 4, 3072, 0, 0)));
-    answer_is(&rt, &fine, 1, 0, &[(8, 2, 4, 3072, 0, 0)]);
+    answer_is(&rt, &fine, 1, &[], &[(8, 2, 4, 3072, 0, 0)]);
     let beside = tree_of(rt.alloc(), &rows, None, Some(FIRST + 257), 8).expect(&rt, "memory");
     home_is(&rt, &beside, 1, false);
+    let half = 268_435_456;
+    let far = [[0, 0, 0, 1], [half, 0, 0, 3]];
+    let apart = tree_of(rt.alloc(), &far, None, None, 1).expect(&rt, "memory");
+    let children = [(8, 1, 1, 0, 0, 0), (12, 1, 3, 805_306_368, 0, 0)];
+    answer_is(&rt, &apart, 1, &[], &children);
 }
 
 #[test]
@@ -120,7 +128,7 @@ fn neighbours_under_the_parents(rt: HostRuntime) {
     home_is(&rt, &tree, FIRST / 8, false);
     home_is(&rt, &tree, FIRST / 8 + 1, false);
     home_is(&rt, &tree, FIRST + 1, true);
-    answer_is(&rt, &tree, FIRST + 14, 1, &[]);
+    answer_is(&rt, &tree, FIRST + 14, &[5], &[]);
     let open = tree_of(rt.alloc(), &rows, Some(FIRST), None, 1).expect(&rt, "memory");
     branches_are(
         &rt,
@@ -133,8 +141,8 @@ fn neighbours_under_the_parents(rt: HostRuntime) {
 fn bodies_at_one_place(rt: HostRuntime) {
     let rows = [[5, 5, 5, 1], [5, 5, 5, 2], [5, 5, 5, 3]];
     let tree = tree_of(rt.alloc(), &rows, None, None, 1).expect(&rt, "memory");
-    answer_is(&rt, &tree, FIRST, 3, &[]);
-    answer_is(&rt, &tree, FIRST / 8, 0, &[(FIRST, 3, 6, 30, 30, 30)]);
+    answer_is(&rt, &tree, FIRST, &[1, 2, 3], &[]);
+    answer_is(&rt, &tree, FIRST / 8, &[], &[(FIRST, 3, 6, 30, 30, 30)]);
     rec_is(&rt, &tree, 1, Some((1, 3, 6, 30, 30, 30)));
     let none = tree_of(rt.alloc(), &[], None, None, 1).expect(&rt, "memory");
     rec_is(&rt, &none, 1, None);

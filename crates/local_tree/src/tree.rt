@@ -158,8 +158,9 @@ impl LocalTree {
     }
 
     /// The record of a cell over the bodies of the piece: their count and mass, and the sums of mass times coordinate. None
-    /// exactly where the piece has no body there. A cell that a walk meets is found by one binary search in a table, any
-    /// other by two among the bodies, and no body is summed. It takes no memory.
+    /// exactly where the piece has no body there. A cell in the table (those that a walk meets, up to two records a body)
+    /// is found by one binary search, any other by that and two more among the bodies, and no body is summed. It takes
+    /// no memory.
     pub fn rec(&self, key: u64) -> Option<CellRec>
         requires cell { IsCell key }
         ensures value { result ≡ trees.record_at self.now.bodies key }

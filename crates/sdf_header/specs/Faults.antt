@@ -84,7 +84,7 @@ IsNoType before x after =
     (Stops before x × IsTypeWord before x × (BehindUnsigned before → ⊥))
     ⊎ ((x ≡ word (codes "unsigned")) × TypeWanted before × (y : Option Lexeme) × (more : Spelling) × (after ≡ y ∷ more) × Stops (before ++ x ∷ []) y)
 
--- the token decides a fault of this kind: where it stops and that is no fault of a type, of the syntax
+-- the token decides a fault of this kind; of the syntax where it stops and that is no fault of a type
 abbrev pub Decides : FaultKind → Spelling → Option Lexeme → Spelling → Type 0
 Decides faults.Syntax before x after = Stops before x × (IsTypeWord before x → ⊥) × (BehindUnsigned before → ⊥)
 Decides faults.UnknownType before x after = IsNoType before x after

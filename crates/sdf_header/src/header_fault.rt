@@ -45,13 +45,14 @@ pub enum HeaderFault {
     SecondStruct(u32),
     /// There is no struct.
     NoStruct,
-    /// The name of the 65th column, or of one that makes the row longer than 1,024 bytes.
+    /// The name of the 65th column, or of one that makes the row longer than 1,024 bytes; a column with `[` counts once
+    /// its length is read and good.
     TooWide(u32),
     /// The first of the columns `x`, `y`, `z` that is not there, or is an array.
     Missing(ColName),
-    /// The first column that is used, is no array, and whose type is not whole.
+    /// The first of `x`, `y`, `z`, `mass`, `ident`, `work` that is a column, no array, and not of a whole type.
     NotWhole(ColName),
-    /// The first parameter that is not a whole number in its range.
+    /// The first parameter that is not a whole number in its range; of the byte order, not one of the two marks.
     BadParameter(ParamName),
     /// The stated number of rows, which is above 262,144.
     TooMany(u64),

@@ -40,18 +40,29 @@ fn col(kind: Whole, offset: u32) -> Col {
     Col { kind, offset }
 }
 
+/// The verdict of bytes that come in pieces of a size, where the answer at the header's end is the header's length.
 fn fed(alloc: Global, bytes: &[u8], size: usize) -> Result<Layout, HeaderError> {
     let Ok(mut reader) = HeaderReader::new(alloc) else {
         return Err(HeaderError::Memory);
     };
+    let mut before: usize = 0;
+    let mut end = None;
     for piece in bytes.chunks(size.max(1)) {
         match reader.feed(piece) {
-            Ok(Fed::More) => {}
-            Ok(Fed::Ended(_)) => break,
-            Err(fault) => return Err(HeaderError::Fault(fault)),
+            Ok(Fed::More) => before = before.saturating_add(piece.len()),
+            Ok(Fed::Ended(taken)) => {
+                end = Some(before.saturating_add(taken));
+                break;
+            }
+            Err(_) => break,
         }
     }
-    reader.finish()
+    let layout = reader.finish()?;
+    if end == Some(layout.header_len as usize) {
+        Ok(layout)
+    } else {
+        Err(HeaderError::Memory)
+    }
 }
 
 fn fault_of(found: Result<Layout, HeaderError>) -> Option<HeaderFault> {
@@ -106,7 +117,40 @@ const WHOLE: [(&[u8], HeaderFault); 18] = [
     (b"# SDF\nint x = ;\n# SDF-EOH\n", HeaderFault::Syntax(14)),
 ];
 
-const MIDDLES: [(&[u8], HeaderFault); 86] = [
+const MIDDLES: [(&[u8], HeaderFault); 101] = [
+    (
+        b"parameter a = 18446744073709551616;",
+        HeaderFault::Syntax(20),
+    ),
+    (
+        b"parameter a = -0x8000000000000001;",
+        HeaderFault::Syntax(20),
+    ),
+    (b"int a = 0x10000000000000000;", HeaderFault::Syntax(14)),
+    (
+        b"char a[18446744073709551616] = \"\";",
+        HeaderFault::Syntax(13),
+    ),
+    (
+        b"struct {int x[18446744073709551616];}[];",
+        HeaderFault::Syntax(20),
+    ),
+    (b"struct {}[18446744073709551616];", HeaderFault::Syntax(16)),
+    (b"struct {char a[1024], b[0];}[];", HeaderFault::Syntax(30)),
+    (b"struct {char a[1024], b[2", HeaderFault::TooWide(28)),
+    (b"unsigned /* x", HeaderFault::UnknownType(6)),
+    (b"unsigned 1", HeaderFault::UnknownType(6)),
+    (b"struct {unsigned $", HeaderFault::UnknownType(14)),
+    (b"struct {long x;}[];", HeaderFault::UnknownType(14)),
+    (b"struct {int x y;}[];", HeaderFault::Syntax(20)),
+    (
+        b"struct {int x, y, z; float work; char mass;}[];",
+        HeaderFault::NotWhole(ColName::Mass),
+    ),
+    (
+        b"struct {int x, y, z; double work[1]; float ident[2];}[262145];",
+        HeaderFault::TooMany(262_145),
+    ),
     (
         b"struct {int x;}[];\nstruct {int y;}[];",
         HeaderFault::SecondStruct(25),
@@ -367,6 +411,13 @@ fn layouts(rt: HostRuntime) -> Result<(), Fail> {
     let middle =
         b"struct {int8_t x; uint8_t y; unsigned char z; short mass; uint16_t ident; uint64_t work; int64_t vx; unsigned int vy; int16_t vz;}[];";
     assert!(rt; has_shape(alloc, &between_lines(alloc, middle)?, kinds));
+    let sizes = Shape {
+        width: 24,
+        count: Some(4),
+        ..plain(71)
+    };
+    let middle = b"char u[16] = \"\"; struct {int x, y, z; float p[3];}[4];";
+    assert!(rt; has_shape(alloc, &between_lines(alloc, middle)?, sizes));
     let widest = Shape {
         width: 1024,
         count: Some(262_144),

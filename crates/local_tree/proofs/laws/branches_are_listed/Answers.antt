@@ -1,0 +1,7 @@
+use Rattle.hot_model.specs.Branches.{branches}
+use Rattle.hot_model.proofs.Counts.{branches-are, branches_ascend}
+use Rattle.hot_model.proofs.Sorts.{ascends_strict}
+use Rattle.local_tree.proofs.laws.branches_are_listed.Goals as goal
+
+pub returns : goal.returns
+returns c = record { law = λ w q g. record { ascend = ascends_strict (branches w q) (branches_ascend w q g); all = branches-are w q } }
