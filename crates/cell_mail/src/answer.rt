@@ -6,12 +6,14 @@ ghost use Rattle.cell_mail.specs.Sizes.{mark_size};
 ghost use Rattle.cell_mail.specs.Spelling.{number, tag_of, entries, item_bytes};
 ghost use Rattle.cell_mail.specs.Grammar as grammar;
 ghost use Rattle.cell_mail.specs.Reading.{Gives, good_answer, entries_at, item_at};
+ghost use Rattle.cell_mail.specs.Skimming as skimming;
 
 use crate::LetterError;
 use crate::entry::{Entry, counted_of, put_counted};
 use crate::keyed::rise;
 use crate::limits::{BODIES, CHILDREN, MAX_CHILDREN, is_below_root};
-use crate::number::{put_u8, put_u64, u8_at, u64_at};
+use crate::number::{put_u8, put_u64, u8_at, u32_at, u64_at};
+use crate::skim::{Row, Skim, behind_row};
 use hot_model::limits::{MAX_LEAF, MAX_LEVEL};
 use hot_model::{Answer, Answered, Body, CellRec, covers, level};
 use std::alloc::{AllocError, Global};
@@ -160,5 +162,72 @@ impl Entry for Answered {
     fn write(&self, out: &mut Vec<u8>) -> Result<(), AllocError> {
         put_u64(out, self.key)?;
         put_answer(out, &self.answer)
+    }
+}
+
+impl Row for CellRec {
+    ghost stands = { skimming.child_stands };
+
+    fn stands(&self, cell: u64, last: &Option<CellRec>) -> bool {
+        match last {
+            None => 0 < self.key && self.key / 8 == cell,
+            Some(a) => a.key < self.key && self.key / 8 == cell,
+        }
+    }
+}
+
+impl Row for Body {
+    ghost stands = { skimming.body_stands };
+
+    fn stands(&self, cell: u64, last: &Option<Body>) -> bool {
+        follows(last, self) && is_inside(cell, self)
+    }
+}
+
+/// Whether so many bodies may stand in the answer for a cell.
+fn fits_leaf(cell: u64, count: u32) -> bool
+    requires { keys.IsCell cell }
+    ensures { result ≡ grammar.fits_leaf cell count }
+{
+    count as usize <= MAX_LEAF as usize || level(cell) == MAX_LEVEL
+}
+
+/// The bytes behind the entries of a good answer for a cell with this tag.
+#[tactic(auto, unfolding(crate::specs::Skimming::answer_past))]
+fn behind_answer(alloc: Global, cell: u64, tag: u8, bytes: &[u8]) -> Result<&[u8], LetterError>
+    requires { keys.IsCell cell }
+    ensures { Gives (λ x. x.now) result (skimming.answer_past cell tag bytes.now) }
+{
+    match tag {
+        CHILDREN => {
+            let (count, rest) = u32_at(bytes)?;
+            if !(1 <= count && count as usize <= MAX_CHILDREN) {
+                return Err(LetterError::NotALetter);
+            }
+            behind_row::<CellRec>(alloc, cell, count, rest)
+        }
+        BODIES => {
+            let (count, rest) = u32_at(bytes)?;
+            if !(1 <= count && fits_leaf(cell, count)) {
+                return Err(LetterError::NotALetter);
+            }
+            behind_row::<Body>(alloc, cell, count, rest)
+        }
+        _ => Err(LetterError::NotALetter),
+    }
+}
+
+impl Skim for Answered {
+    ghost key_at = { skimming.item_key_at };
+
+    #[tactic(auto, using(crate::proofs::Hints::on_items), unfolding(crate::specs::Skimming::item_key_at))]
+    fn skim(alloc: Global, bytes: &[u8]) -> Result<(u64, &[u8]), LetterError> {
+        let (key, rest) = u64_at(bytes)?;
+        let (tag, rest) = u8_at(rest)?;
+        if !is_below_root(key) {
+            return Err(LetterError::NotALetter);
+        }
+        let rest = behind_answer(alloc, key, tag, rest)?;
+        Ok((key, rest))
     }
 }

@@ -57,7 +57,7 @@ pub(crate) fn rise<T: Keyed>(items: &[T]) -> bool
 pub(crate) fn keys_of<T: Keyed>(alloc: Global, items: &[T]) -> Result<KeyList, AllocError>
     ensures { IfOk result (λ v. v ≡ map T.key_of items.now) }
 {
-    let mut keys = KeyList::new(alloc);
+    let mut keys = KeyList::with_capacity(alloc, items.len())?;
     for item in items {
         keys.push(item.key())?;
     }

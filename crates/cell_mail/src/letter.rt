@@ -12,7 +12,7 @@ use crate::entry::{Entry, put_counted};
 use crate::keyed::keys_of;
 use crate::limits::{ANSWERS, ASKS, BRANCHES, VERSION};
 use crate::number::put_u8;
-use crate::reading::{kind_of, parsed, whole};
+use crate::reading::{parsed, whole};
 use crate::{Content, Kind, LetterError};
 use hot_model::{AnswerList, KeyList, RecList};
 use std::alloc::{AllocError, Global};
@@ -114,8 +114,8 @@ impl Letter {
     }
 
     /// The letter with these bytes. `NotALetter` exactly where the bytes are in no form of the grammar; memory may run
-    /// out. Any bytes may be given: the time is linear in their number, and the memory follows what is there and not
-    /// what a count claims.
+    /// out. Any bytes may be given: the time is linear in their number, and no allocation is larger than they are,
+    /// whatever a count claims.
     pub fn from_bytes(
         alloc: Global,
         from: u32,
@@ -126,8 +126,7 @@ impl Letter {
         ensures letter { IfOk result (λ l. (l.from ≡ from) × (l.to ≡ to) × Spells bytes.now l.content) }
         ensures not_a_letter { result ≡ Err errors.NotALetter → (c : Content) → Spells bytes.now c → ⊥ }
     {
-        let (content, keys) = whole(alloc, bytes)?;
-        let kind = kind_of(&content);
+        let (kind, keys) = whole(alloc, bytes)?;
         let bytes = Vec::from_slice(alloc, bytes)?;
         Ok(Letter {
             from,

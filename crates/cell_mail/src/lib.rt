@@ -13,6 +13,7 @@ mod limits;
 mod number;
 mod parts;
 mod reading;
+mod skim;
 #[cfg(test)]
 mod tests;
 

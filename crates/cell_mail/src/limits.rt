@@ -19,6 +19,15 @@ pub const CHILDREN: u8 = 1;
 
 pub const BODIES: u8 = 2;
 
+/// How many bytes a mark, a count and a field of a body, a key and a mass, and a sum have.
+pub const MARK_SIZE: usize = 1;
+
+pub const COUNT_SIZE: usize = 4;
+
+pub const KEY_SIZE: usize = 8;
+
+pub const SUM_SIZE: usize = 16;
+
 /// The most children of a cell.
 pub const MAX_CHILDREN: usize = 8;
 

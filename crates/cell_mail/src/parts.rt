@@ -1,11 +1,13 @@
 ghost use Rattle.std.specs.Prelude.{◌≡◌, ◌++◌, OnOk};
 ghost use Rattle.cell_mail.specs.Spelling.{key_bytes, record_bytes, body_bytes};
 ghost use Rattle.cell_mail.specs.Reading.{Gives, key_at, record_at, body_at};
+ghost use Rattle.cell_mail.specs.Skimming.{record_key_at};
 
 use crate::LetterError;
 use crate::entry::Entry;
 use crate::limits::{is_below_root, is_record, is_sent};
 use crate::number::{put_u32, put_u64, put_u128, u32_at, u64_at, u128_at};
+use crate::skim::Skim;
 use hot_model::{Body, CellRec, body_of};
 use std::alloc::{AllocError, Global};
 
@@ -25,6 +27,14 @@ impl Entry for u64 {
 
     fn write(&self, out: &mut Vec<u8>) -> Result<(), AllocError> {
         put_u64(out, *self)
+    }
+}
+
+impl Skim for u64 {
+    ghost key_at = { key_at };
+
+    fn skim(alloc: Global, bytes: &[u8]) -> Result<(u64, &[u8]), LetterError> {
+        <u64 as Entry>::read(alloc, bytes)
     }
 }
 
@@ -54,6 +64,17 @@ impl Entry for CellRec {
         put_u128(out, self.sx)?;
         put_u128(out, self.sy)?;
         put_u128(out, self.sz)
+    }
+}
+
+impl Skim for CellRec {
+    ghost key_at = { record_key_at };
+
+    fn skim(alloc: Global, bytes: &[u8]) -> Result<(u64, &[u8]), LetterError> {
+        match <CellRec as Entry>::read(alloc, bytes) {
+            Ok((record, rest)) => Ok((record.key, rest)),
+            Err(e) => Err(e),
+        }
     }
 }
 

@@ -1,21 +1,22 @@
-ghost use Rattle.std.specs.Prelude.{◌≡◌, ◌≤◌, ◌^◌, ◌&&◌, IfOk};
+ghost use Rattle.std.specs.Prelude.{◌≡◌, ◌≤◌, ◌^◌, ◌&&◌};
 ghost use Rattle.std.specs.List.{AllByRecursion};
 ghost use Rattle.hot_model.specs.Limits.{max_level};
 ghost use Rattle.hot_model.specs.Keys.{IsCell};
-ghost use Rattle.cell_mail.specs.Spelling.{keys_of};
 ghost use Rattle.cell_mail.specs.Grammar as grammar;
 ghost use Rattle.cell_mail.specs.Merging as merging;
+ghost use Rattle.cell_mail.specs.declared.content.Kind.TheVariants as kinds;
 ghost use Rattle.cell_mail.specs.Reading as spec;
-ghost use Rattle.cell_mail.specs.Letters.{kind_of};
+ghost use Rattle.cell_mail.specs.Skimming as skimming;
 
 use crate::entry::counted_of;
-use crate::keyed::{keys_of, rise};
+use crate::keyed::rise;
 use crate::limits::{ANSWERS, ASKS, BRANCHES, VERSION};
 use crate::number::u8_at;
+use crate::skim::counted_keys;
 use crate::{Content, Kind, LetterError};
 use hot_model::limits::{MAX_BODIES, MAX_LEVEL};
 use hot_model::{Answered, CellRec, KeyList};
-use std::alloc::{AllocError, Global};
+use std::alloc::Global;
 
 /// The keys behind those below a number at the front.
 fn behind(keys: &[u64], wanted: u64) -> &[u64]
@@ -81,15 +82,14 @@ fn are_good_branches(keys: &[u64]) -> bool
     are_apart(keys)
 }
 
-/// Whether a content with these keys is good, besides its items.
-fn is_good(content: &Content, keys: &[u64]) -> bool
-    requires fit { spec.ItemsFit content.now }
-    requires keys { keys.now ≡ keys_of content.now }
-    ensures { result ≡ spec.good_content content.now }
+/// Whether the keys of the items of a content of this kind are good.
+fn are_good(kind: Kind, keys: &[u64]) -> bool
+    requires { kind ≡ kinds.Branches → AllByRecursion IsCell keys.now }
+    ensures { result ≡ skimming.good_keys kind keys.now }
 {
-    match content {
-        Content::Branches(_) => keys.len() <= MAX_BODIES as usize && are_good_branches(keys),
-        Content::Asks(_) | Content::Answers(_) => 1 <= keys.len() && rise(keys),
+    match kind {
+        Kind::Branches => keys.len() <= MAX_BODIES as usize && are_good_branches(keys),
+        Kind::Asks | Kind::Answers => 1 <= keys.len() && rise(keys),
     }
 }
 
@@ -129,41 +129,58 @@ pub(crate) fn parsed(alloc: Global, bytes: &[u8]) -> Result<(Content, &[u8]), Le
     Ok((content, rest))
 }
 
-/// The kind of a content.
-pub(crate) fn kind_of(content: &Content) -> Kind
-    ensures { result ≡ kind_of content.now }
+/// The kind of this number, the keys of the items, each of which is good by itself, and the bytes after them.
+#[tactic(auto, unfolding(crate::specs::Skimming::keys_at))]
+fn keys_of_kind(
+    alloc: Global,
+    kind: u8,
+    bytes: &[u8],
+) -> Result<(Kind, KeyList, &[u8]), LetterError>
+    ensures { spec.Gives (λ x. (x.0, x.1, x.2.now)) result (skimming.keys_at kind bytes.now) }
 {
-    match content {
-        Content::Branches(_) => Kind::Branches,
-        Content::Asks(_) => Kind::Asks,
-        Content::Answers(_) => Kind::Answers,
+    match kind {
+        BRANCHES => {
+            let (keys, rest) = counted_keys::<CellRec>(alloc, bytes)?;
+            Ok((Kind::Branches, keys, rest))
+        }
+        ASKS => {
+            let (keys, rest) = counted_keys::<u64>(alloc, bytes)?;
+            Ok((Kind::Asks, keys, rest))
+        }
+        ANSWERS => {
+            let (keys, rest) = counted_keys::<Answered>(alloc, bytes)?;
+            Ok((Kind::Answers, keys, rest))
+        }
+        _ => Err(LetterError::NotALetter),
     }
 }
 
-/// The keys of the items of a content, in their order.
-fn keys_in(alloc: Global, content: &Content) -> Result<KeyList, AllocError>
-    ensures { IfOk result (λ v. v ≡ keys_of content.now) }
+/// The kind and the keys of the items, each of which is good by itself, and the bytes after them.
+#[tactic(auto, unfolding(crate::specs::Skimming::skimmed_at))]
+fn skimmed(alloc: Global, bytes: &[u8]) -> Result<(Kind, KeyList, &[u8]), LetterError>
+    ensures { spec.Gives (λ x. (x.0, x.1, x.2.now)) result (skimming.skimmed_at bytes.now) }
 {
-    match content {
-        Content::Branches(cells) => keys_of(alloc, cells.as_slice()),
-        Content::Asks(keys) => keys_of(alloc, keys.as_slice()),
-        Content::Answers(items) => keys_of(alloc, items.as_slice()),
+    let (version, rest) = u8_at(bytes)?;
+    let (kind, rest) = u8_at(rest)?;
+    let (kind, keys, rest) = keys_of_kind(alloc, kind, rest)?;
+    if version != VERSION {
+        return Err(LetterError::NotALetter);
     }
+    Ok((kind, keys, rest))
 }
 
-/// The content that all of the bytes spell, and the keys of its items.
-#[tactic(auto, unfolding(crate::specs::Reading::reading, crate::specs::Reading::content_at))]
-pub(crate) fn whole(alloc: Global, bytes: &[u8]) -> Result<(Content, KeyList), LetterError>
-    ensures content { spec.Gives (λ x. x.0) result (spec.reading bytes.now) }
-    ensures keys { IfOk result (λ x. x.1 ≡ keys_of x.0) }
+/// The kind and the keys of the content that all of the bytes spell. The content is not built: nothing is allocated but
+/// the keys, which are no larger than the bytes.
+#[tactic(auto, unfolding(crate::specs::Skimming::skimming))]
+pub(crate) fn whole(alloc: Global, bytes: &[u8]) -> Result<(Kind, KeyList), LetterError>
+    ensures { spec.Gives (λ x. (x.0, x.1)) result (skimming.skimming bytes.now) }
 {
-    let (content, rest) = parsed(alloc, bytes)?;
+    let (kind, keys, rest) = skimmed(alloc, bytes)?;
     if !rest.is_empty() {
         return Err(LetterError::NotALetter);
     }
-    let keys = keys_in(alloc, &content)?;
-    if !is_good(&content, keys.as_slice()) {
+    if !are_good(kind, keys.as_slice()) {
         return Err(LetterError::NotALetter);
     }
-    Ok((content, keys))
+    Ok((kind, keys))
 }

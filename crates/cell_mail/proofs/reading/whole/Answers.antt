@@ -1,6 +1,7 @@
 use Rattle.std.proofs.Common.{arith}
-use Rattle.cell_mail.proofs.Formats.{reads-unchecked}
+use Rattle.cell_mail.proofs.Skims.{skimmed-cells}
 use Rattle.cell_mail.proofs.reading.whole.Goals as goal
 
-pub is_good-requires-clause-fit : goal.is_good-requires-clause-fit
-is_good-requires-clause-fit c = (reads-unchecked.takes c.args.bytes.now c.in_ok-content.content c.in_ok-content.rest.now (λ i. omega (arith, c.type_inv.bytes i)) c.in_ok-content.ensures).1
+pub are_good-requires : goal.are_good-requires
+are_good-requires c = λ k.
+    rw c.as_slice.ensures.items (skimmed-cells c.args.bytes.now c.in_ok-kind.kind c.in_ok-kind.keys c.in_ok-kind.rest.now (λ i. omega (arith, c.type_inv.bytes i)) c.in_ok-kind.ensures k)
