@@ -1,0 +1,4 @@
+pub mod Settles
+pub mod Noted
+pub mod Slots
+pub mod Indexed

@@ -1,0 +1,127 @@
+ghost use Rattle.std.specs.Prelude.{◌≡◌, ℕ, ◌+◌, ◌-◌, ◌<◌, ◌≤◌, ◌^◌, Bool, false, true, List, [], ◌∷◌, Some, IfOk, OnOk, length, map, ◌++◌, slice_get};
+ghost use Rattle.hot_model.specs.Limits.{max_all_mass};
+ghost use Rattle.hot_model.specs.Trees.{mass_of};
+ghost use Rattle.hot_model.specs.World.{World, IsGood, record_in, bodies_in, piece as piece_of};
+ghost use Rattle.hot_model.specs.Answers.{true_answer};
+ghost use Rattle.hot_model.specs.Needs.{is_away};
+ghost use Rattle.hot_model.specs.Pairs.{PairValue, IsPair, pair_with};
+ghost use Rattle.defer_walk.specs.Settling.{IsOpened, Settles, now_opened};
+ghost use Rattle.defer_walk.specs.Tallies.{Notes};
+ghost use Rattle.defer_walk.specs.Asked.{Extends};
+ghost use Rattle.defer_walk.specs.Standing.{meaning, AreStored, AreRoots, Waits, pair_in, pairs_in, NoneBelow};
+ghost use Rattle.defer_walk.specs.Turning.{Beginning, Runs};
+
+use crate::answers::{near_all, push_all};
+use crate::asks::Asks;
+use crate::cells::Cells;
+use crate::listed::{Listed, Pair, pair_of};
+use crate::tally::Tally;
+use crate::turns::work_off;
+use hot_model::{Answer, Body, CellRec, Seen, Visit};
+use std::alloc::{AllocError, Global};
+
+/// What becomes of a pair whose cell was answered: pairs of the children, to be tested, or the bodies of a leaf.
+fn wake<V: Visit>(
+    visit: &V,
+    b: &Body,
+    listed: &Listed,
+    answer: &Answer,
+    acc: &mut V::Acc,
+    tally: &mut Tally,
+    work: &mut Vec<Pair>,
+) -> Result<(), AllocError>
+    requires room { tally.old.opened < 2 ^ 64 - 1 }
+    requires light { (w : World) × (answer.now ≡ true_answer w listed.now.key) × (V.Acc.seen_of acc.old + mass_of (bodies_in w listed.now.key) ≤ max_all_mass) }
+{
+    match answer {
+        Answer::Bodies(others) => near_all(visit, b, acc, others.as_slice())?,
+        Answer::Children(recs) => push_all(work, listed.body, recs.as_slice())?,
+    }
+    if !listed.whole {
+        tally.note(listed.key)?;
+    }
+    Ok(())
+}
+
+/// The first advance: each body goes down from the root as far as the rank has the tree.
+pub fn begin<V: Visit, C: Cells>(
+    alloc: Global,
+    visit: &V,
+    cells: &C,
+    root: CellRec,
+    piece: &[Body],
+    accs: &mut [V::Acc],
+    tally: &mut Tally,
+    asks: &mut Asks,
+    pairs: &mut Vec<Listed>,
+    waiting: &mut Vec<Listed>,
+) -> Result<(), AllocError> {
+    let mut work = Vec::new(alloc);
+    while let Some(listed) = pairs.pop() {
+        work.push(pair_of(listed.body, root, false))?;
+        work_off(visit, cells, piece, accs, tally, asks, &mut work, waiting)?;
+    }
+    Ok(())
+}
+
+/// A later advance: each pair whose cell was answered goes on, and the others still wait.
+pub fn resume<V: Visit, C: Cells>(
+    alloc: Global,
+    visit: &V,
+    cells: &C,
+    piece: &[Body],
+    accs: &mut [V::Acc],
+    tally: &mut Tally,
+    asks: &mut Asks,
+    pairs: &mut Vec<Listed>,
+    waiting: &mut Vec<Listed>,
+) -> Result<(), AllocError> {
+    let mut work = Vec::new(alloc);
+    while let Some(listed) = pairs.pop() {
+        match asks.answer(listed.key) {
+            None => waiting.push(listed)?,
+            Some(answer) => {
+                let at = listed.body as usize;
+                wake(
+                    visit,
+                    &piece[at],
+                    &listed,
+                    answer,
+                    &mut accs[at],
+                    tally,
+                    &mut work,
+                )?;
+                work_off(visit, cells, piece, accs, tally, asks, &mut work, waiting)?;
+            }
+        }
+    }
+    Ok(())
+}
+
+/// As many empty accumulators.
+pub fn nothing_added<V: Visit>(
+    alloc: Global,
+    visit: &V,
+    bodies: usize,
+) -> Result<Vec<V::Acc>, AllocError> {
+    let mut accs = Vec::new(alloc);
+    for _ in 0..bodies {
+        accs.push(visit.zero(alloc))?;
+    }
+    Ok(accs)
+}
+
+/// Lists each body with the root.
+pub fn list_roots(pairs: &mut Vec<Listed>, bodies: u32) -> Result<(), AllocError> {
+    for body in 0..bodies {
+        pairs.push(Listed {
+            body,
+            whole: false,
+            key: ROOT_KEY,
+        })?;
+    }
+    Ok(())
+}
+
+/// The key of the root.
+pub const ROOT_KEY: u64 = 1;
