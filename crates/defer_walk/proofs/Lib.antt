@@ -2,3 +2,4 @@ pub mod Settles
 pub mod Noted
 pub mod Slots
 pub mod Indexed
+pub mod Keeping

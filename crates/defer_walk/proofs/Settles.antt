@@ -12,14 +12,12 @@ use Rattle.hot_model.specs.Values.{BodyValue, CellValue}
 use Rattle.hot_model.specs.Keys.{height, IsCell}
 use Rattle.hot_model.specs.Trees.{Term, Far, Near, added, listed, mass_of, mass_of_body, mass_of_term, child, digits, cell_record, is_empty}
 use Rattle.hot_model.specs.World.{World, IsGood, bodies_in, record_in, is_leaf}
-use Rattle.hot_model.specs.Branches.{IsTop, parent}
 use Rattle.hot_model.specs.Needs.{part_of, is_away, itself, outer_of}
 use Rattle.hot_model.specs.Answers.{child_records}
 use Rattle.hot_model.specs.Pairs.{PairValue, IsPair, rest_of, still_asked, still_opened, pair_with, child_pairs, weight, weights}
 use Rattle.hot_model.specs.declared.part.Part.TheVariants.{Inner, Spread, Leaf, Away}
 use Rattle.hot_model.proofs.Parts.{digits-at}
-use Rattle.hot_model.proofs.Fronts.{parent_of_child}
-use Rattle.hot_model.proofs.Members.{all_members, has_map}
+use Rattle.hot_model.proofs.Members.{all_members, has_map, head_has}
 use Rattle.hot_model.proofs.Children.{child_record_is}
 use Rattle.hot_model.proofs.Owners.{top_is_high}
 use Rattle.hot_model.proofs.Asks.{top_not_away}
@@ -27,7 +25,7 @@ use Rattle.hot_model.proofs.Walks.{some_length}
 use Rattle.hot_model.proofs.Aways.{leaf-is, spread-is, inner-is}
 use Rattle.hot_model.proofs.Heights.{height_is, height_level, has_children, outer_of_away}
 use Rattle.hot_model.proofs.Steps.{record_some, rest_far, rest_leaf, rest_parted, opened_far, opened_leaf, opened_parted, asked_far, asked_leaf, asked_parted, whole_parted, whole_asked, whole_away, outer_own, children_are, children_lighter}
-use Rattle.defer_walk.specs.Settling.{IsOpened, IsParted, Settles, Turns, now_opened}
+use Rattle.defer_walk.specs.Settling.{IsOpened, IsParted, IsChildOf, Settles, Turns, now_opened}
 
 -- a pair of the world has bodies, and its record has their number and mass
 pub pair_full : (w : World) (p : PairValue) → IsPair w p → (0 < length (bodies_in w p.rec.key)) × (p.rec.count ≡ length (bodies_in w p.rec.key)) × (p.rec.mass ≡ mass_of (bodies_in w p.rec.key))
@@ -43,11 +41,11 @@ same_bodies : (w : World) (p : PairValue) (whole : Bool) → All (λ q. q.body �
 same_bodies w p whole = All-map (λ (q : PairValue). q.body ≡ p.body) (pair_with p.body whole) (child_records w p.rec.key) (λ k d h. refl)
 
 -- the child pairs are of the children
-same_parent : (w : World) (p : PairValue) (whole : Bool) → All (λ q. parent q.rec.key ≡ p.rec.key) (child_pairs w p whole)
-same_parent w p whole = all_members (λ (q : PairValue). parent q.rec.key ≡ p.rec.key) (child_pairs w p whole) (λ q m.
+same_parent : (w : World) (p : PairValue) (whole : Bool) → 0 < height p.rec.key → All (λ q. IsChildOf p.rec.key q.rec.key) (child_pairs w p whole)
+same_parent w p whole high = all_members (λ (q : PairValue). IsChildOf p.rec.key q.rec.key) (child_pairs w p whole) (λ q m.
     let r = has_map (pair_with p.body whole) (child_records w p.rec.key) q m in
     let d = child_record_is w p.rec.key r.0 r.1 in
-    ap (λ (x : PairValue). parent x.rec.key) r.2 ∙ ap (λ (x : CellValue). parent x.key) d.3 ∙ parent_of_child p.rec.key d.0 d.1)
+    (high, (d.0, d.1, ap (λ (x : PairValue). x.rec.key) r.2 ∙ ap (λ (x : CellValue). x.key) d.3)))
 
 -- pairs that are added whole open no cell
 whole_opens : (opens : CellValue → Bool) (w : World) (body : ℕ) (rs : List CellValue) → flat_map (still_opened opens w) (map (pair_with body true) rs) ≡ []
@@ -99,8 +97,8 @@ module _ {A : Type 0} (add : A → Term → A) (opens : CellValue → Bool) (w :
   is_tested : IsOpened opens p → p.whole ≡ false → opens p.rec ≡ true
   is_tested o n = elim o [ inl g ↦ true_false (sym g ∙ n) | inr g ↦ g ]
 
-  none_below : All (λ (q : PairValue). parent q.rec.key ≡ p.rec.key) []
-  none_below = All-nil (λ (q : PairValue). parent q.rec.key ≡ p.rec.key)
+  none_below : All (λ (q : PairValue). IsChildOf p.rec.key q.rec.key) []
+  none_below = All-nil (λ (q : PairValue). IsChildOf p.rec.key q.rec.key)
 
   -- a pair whose cell is not opened: one term
   pub settles_far : p.whole ≡ false → opens p.rec ≡ false → (b : A) → b ≡ add a (Far p.rec) → Settles add opens w me p a b [] []
@@ -138,7 +136,7 @@ module _ {A : Type 0} (add : A → Term → A) (opens : CellValue → Bool) (w :
         opened = opened_parted opens w me p is n t l ∙ rw (n, t) refl;
         asked = asked_parted opens w me p is n t l ∙ ap (λ (ks : List ℕ). ks ++ flat_map (still_asked opens w me) (child_pairs w p false)) h;
         bodies = same_bodies w p false;
-        below = same_parent w p false;
+        below = same_parent w p false high;
         pairs = children_are w p false is high (λ b. true_false (sym b));
         lighter = children_lighter w p false is.cell high;
       }
@@ -191,7 +189,7 @@ module _ {A : Type 0} (add : A → Term → A) (opens : CellValue → Bool) (w :
             opened = leaf_opened o s.1 ∙ sym (append-nil (now_opened opens p)) ∙ ap (λ (ks : List ℕ). now_opened opens p ++ ks) (sym (whole_opens opens w p.body (child_records w p.rec.key)));
             asked = leaf_asked o s.1 ∙ whole_asked opens w me q isq refl high (top_not_away w me p.rec.key s.0);
             bodies = same_bodies w p true;
-            below = same_parent w p true;
+            below = same_parent w p true high;
             pairs = children_are w p true is high (λ b. s.1);
             lighter = children_lighter w p true i high;
           };
@@ -205,6 +203,19 @@ module _ {A : Type 0} (add : A → Term → A) (opens : CellValue → Bool) (w :
   -- or the records of the children
   pub answer_children : IsOpened opens p → is_away w me p.rec.key ≡ true → is_leaf w p.rec.key ≡ false → Settles add opens w me p a a (p.rec.key ∷ []) (child_pairs w p false)
   answer_children o y l = inner_settles (p.rec.key ∷ []) o l (rw y refl)
+
+  -- a pair that waits asks for its cell
+  pub waiting_asks : IsOpened opens p → is_away w me p.rec.key ≡ true → Contains (still_asked opens w me p) p.rec.key
+  waiting_asks o y = by_leaf (is_leaf w p.rec.key) refl
+    where
+      by_leaf : (t : Bool) → is_leaf w p.rec.key ≡ t → Contains (still_asked opens w me p) p.rec.key
+      by_leaf true l = subst (λ (ks : List ℕ). Contains ks p.rec.key) (sym (leaf_asked o l ∙ outer_of_away w me p.rec.key (record_some w p.rec.key p.rec is.rec).0 y)) (head_has p.rec.key [])
+      by_leaf false l =
+          let n = not_whole l in
+          let i : itself w me p.rec.key ≡ p.rec.key ∷ [] = rw y refl in
+          let e : still_asked opens w me p ≡ (p.rec.key ∷ []) ++ flat_map (still_asked opens w me) (child_pairs w p false) =
+          asked_parted opens w me p is n (is_tested o n) l ∙ ap (λ (ks : List ℕ). ks ++ flat_map (still_asked opens w me) (child_pairs w p false)) i in
+          subst (λ (ks : List ℕ). Contains ks p.rec.key) (sym e) (head_has p.rec.key (flat_map (still_asked opens w me) (child_pairs w p false)))
 
 -- one more child, or none
 abbrev pub records_to : World → ℕ → ℕ → List CellValue

@@ -1,9 +1,9 @@
 -- What one turn of a walk does with a pair.
 use Rattle.std.specs.Prelude.{ℕ, ◌≡◌, ◌<◌, Bool, true, false, if◌then◌else◌, List, [], ◌∷◌, ◌++◌, length, flat_map, All, ◌⊎◌}
 use Rattle.hot_model.specs.Values.{CellValue}
-use Rattle.hot_model.specs.Trees.{Term, added}
+use Rattle.hot_model.specs.Keys.{height}
+use Rattle.hot_model.specs.Trees.{Term, added, child}
 use Rattle.hot_model.specs.World.{World, bodies_in}
-use Rattle.hot_model.specs.Branches.{parent}
 use Rattle.hot_model.specs.Needs.{part_of, is_away}
 use Rattle.hot_model.specs.declared.part.Part.{Part}
 use Rattle.hot_model.specs.declared.part.Part.TheVariants.{Inner, Spread}
@@ -21,13 +21,17 @@ IsOpened opens p = (p.whole ≡ true) ⊎ (opens p.rec ≡ true)
 abbrev pub now_opened : (CellValue → Bool) → PairValue → List ℕ
 now_opened opens p = if p.whole then [] else (if opens p.rec then p.rec.key ∷ [] else [])
 
+-- the cell k is a child of the cell c
+abbrev pub IsChildOf : ℕ → ℕ → Type 0
+IsChildOf c k = (0 < height c) × ((d : ℕ) × (d < 8) × (k ≡ child c d))
+
 -- the pairs `next` took the place of the pair, and the cells `here` were asked for and answered with it
 pub record Settles {A : Type 0} (add : A → Term → A) (opens : CellValue → Bool) (w : World) (me : ℕ) (p : PairValue) (a b : A) (here : List ℕ) (next : List PairValue) : Type 0 where
   pub balance : added add a (rest_of opens w p) ≡ added add b (flat_map (rest_of opens w) next)
   pub opened : still_opened opens w p ≡ now_opened opens p ++ flat_map (still_opened opens w) next
   pub asked : still_asked opens w me p ≡ here ++ flat_map (still_asked opens w me) next
   pub bodies : All (λ q. q.body ≡ p.body) next
-  pub below : All (λ q. parent q.rec.key ≡ p.rec.key) next
+  pub below : All (λ q. IsChildOf p.rec.key q.rec.key) next
   pub pairs : All (IsPair w) next
   pub lighter : weights next < weight p
 
