@@ -3,3 +3,5 @@ pub mod Noted
 pub mod Slots
 pub mod Indexed
 pub mod Keeping
+pub mod Openings
+pub mod Turnings

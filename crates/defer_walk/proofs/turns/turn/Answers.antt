@@ -1,5 +1,5 @@
 use Rattle.std.proofs.Common.{◌≡◌}
-use Rattle.defer_walk.proofs.Keeping.{keeps_settled}
+use Rattle.defer_walk.proofs.Turnings.{All-has}
 use Rattle.defer_walk.proofs.turns.turn.Goals as goal
 
 pub settle-requires : goal.settle-requires
