@@ -208,6 +208,7 @@ module _ {A : Type 0} (v : VisitOf A) (w : World) (me : ℕ) (bodies : List Body
       store = r.store;
       balance = record {
         long = length-set accs p.body a₁ ∙ r.balance.long;
+        none = r.balance.none;
         places = All-settled (λ q. q.body < length bodies) keep next p r.balance.places (All-weaker (λ (q : PairValue). q.body ≡ p.body) (λ (q : PairValue). q.body < length bodies) (λ q e. subst (λ (i : ℕ). i < length bodies) (sym e) (slice_get_within bodies p.body b₀ pb)) next s.bodies);
         cells = All-settled (IsPair w) keep next p r.balance.cells s.pairs;
         sums = sums_settled accs keep next p b₀ a₀ a₁ pb pa s.balance s.bodies r.balance.sums;
@@ -236,6 +237,7 @@ module _ {A : Type 0} (v : VisitOf A) (w : World) (me : ℕ) (bodies : List Body
       store = r.store;
       balance = record {
         long = r.balance.long;
+        none = r.balance.none;
         places = moved (λ q. q.body < length bodies) r.balance.places;
         cells = moved (IsPair w) r.balance.cells;
         sums = λ i b a eb ea.

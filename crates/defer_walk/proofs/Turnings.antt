@@ -2,7 +2,7 @@
 use Rattle.std.proofs.Common.{ℕ, zero, suc, ◌≡◌, ◌+◌, ◌-◌, ◌*◌, ◌^◌, ◌<◌, ◌≤◌, Bool, true, false, List, [], ◌∷◌, ◌++◌, length, map, flat_map, filter, cond, set, get_or, eqb, sym, refl, ap, ◌∙◌, subst, inl, inr, arith, Option, Some, None, append_assoc, lit<, lit≤}
 use Rattle.std.specs.Prelude.{All, Contains, ◌⊎◌, ◌↔◌, IfSome, IsSome, slice_get, sum_by}
 use Rattle.std.proofs.Math.Nat.{mul-le-mul_left, mul-le-mul_right}
-use Rattle.std.proofs.lemmas.Option.{slice_get_within, get_or_from_slice_get}
+use Rattle.std.proofs.lemmas.Option.{slice_get-get_or}
 use Rattle.std.proofs.lemmas.List.{append-nil, map-append}
 use Rattle.std.proofs.lemmas.List.Elements.{All-append, All-nil, All-cons, All-head, All-tail, All-weaker, Contains-append_left, Contains-append_right, Contains-append_cases}
 use Rattle.std.proofs.lemmas.List.Sums.{sum_by-append, sum_by-cons}
@@ -87,8 +87,10 @@ module _ {A : Type 0} (v : VisitOf A) (w : World) (me : ℕ) (start : Beginning)
     ended = subst (Keeps v w me bodies accs tally slots) (to_end waiting rest front p) r.keeps
 
     -- the accumulator has room for what rests of the pair
-    pub turn_fits : (seen : A → ℕ) → ((b : BodyValue) (a : A) (t : Term) → seen (v.adds b a t) ≡ seen a + mass_of_term t) → seen v.nothing ≡ 0 → IsGood w → (b : BodyValue) (a : A) → slice_get bodies p.body ≡ Some b → slice_get accs p.body ≡ Some a → seen a + p.rec.mass ≤ max_all_mass
-    turn_fits seen sees none good b a pb pa =
+    pub turn_fits : ((b : BodyValue) (a : A) (t : Term) → v.seen (v.adds b a t) ≡ v.seen a + mass_of_term t) → IsGood w → (b : BodyValue) (a : A) → slice_get bodies p.body ≡ Some b → slice_get accs p.body ≡ Some a → v.seen a + p.rec.mass ≤ max_all_mass
+    turn_fits sees good b a pb pa =
+        let seen = v.seen in
+        let none = ended.balance.none (omega (arith, turn_body)) in
         let f = rest_of (v.opens b) w in
         let keep = waiting ++ (rest ++ front) in
         let sums = ap seen (ended.balance.sums p.body b a pb pa) in
@@ -238,3 +240,29 @@ module _ {A : Type 0} (v : VisitOf A) (w : World) (me : ℕ) (start : Beginning)
                     let e = All-has (λ (s : Slot). (s.owner ≡ owner) × (s.key ≡ p.rec.key) × (s.answer ≡ None)) g.more m.0 g.each m.1 in
                     inr (b, get_has bodies p.body b pb, subst (Contains (asked_by v w me b)) (sym (m.2 ∙ e.1)) wanted)
               ]
+
+-- what stands at a place that was read
+pub got : {A : Type 0} (xs : List A) (i : ℕ) (x : A) → i < length xs → x ≡ get_or xs i x → slice_get xs i ≡ Some x
+got xs i x h e = slice_get-get_or xs i x h ∙ ap Some (sym e)
+
+-- a listed pair with a record of the world is the pair
+pub pair_listed : (w : World) (p : PairValue) (l : Listed) → IsPair w p → l.body ≡ p.body → l.whole ≡ p.whole → l.key ≡ p.rec.key → pair_in w l ≡ p
+pair_listed w p l is b t k =
+    let r : cell_record w.bodies l.key ≡ p.rec = ap (λ (c : ℕ). cell_record w.bodies c) k ∙ sym (record_some w p.rec.key p.rec is.rec).1 in
+    ap (λ (i : ℕ). pair_with i l.whole (cell_record w.bodies l.key)) b ∙ ap (λ (x : Bool). pair_with p.body x (cell_record w.bodies l.key)) t ∙ ap (λ (c : CellValue). pair_with p.body p.whole c) r
+
+pub pairs_listed : (w : World) (p : PairValue) (ls ls' : List Listed) (l : Listed) → ls' ≡ ls ++ l ∷ [] → pair_in w l ≡ p → pairs_in w ls' ≡ pairs_in w ls ++ p ∷ []
+pairs_listed w p ls ls' l e f = ap (pairs_in w) e ∙ map-append (pair_in w) ls (l ∷ []) ∙ ap (λ (x : PairValue). pairs_in w ls ++ x ∷ []) f
+
+pub less_pop : (xs : List PairValue) (p : PairValue) → weights xs < weights (xs ++ p ∷ [])
+less_pop xs p = omega (arith, sum_by-append weight xs (p ∷ []), sum_by-cons weight p [], nine_pos (height p.rec.key))
+
+pub turned_lighter : {A : Type 0} (add : A → Term → A) (opens : CellValue → Bool) (w : World) (me : ℕ) (p : PairValue) (a b : A) (old new : List PairValue) → Turns add opens w me p a b old new → weights new < weights (old ++ p ∷ [])
+turned_lighter add opens w me p a b old new t =
+    omega (arith, ap weights t.work, sum_by-append weight old t.next, sum_by-append weight old (p ∷ []), sum_by-cons weight p [], t.settles.lighter)
+
+module _ {A : Type 0} (v : VisitOf A) (w : World) (me : ℕ) (start : Beginning) (bodies : List BodyValue) where
+  -- the same state under other names
+  pub runs_same : (accs accs' : List A) (tally tally' : TallyValue) (slots : List Slot) (rest work work' waiting waiting' : List PairValue) → accs' ≡ accs → tally' ≡ tally → work' ≡ work → waiting' ≡ waiting
+      → Runs v w me start bodies accs tally slots rest work waiting → Runs v w me start bodies accs' tally' slots rest work' waiting'
+  runs_same accs accs' tally tally' slots rest work work' waiting waiting' a t b c r = rw (a, t, b, c) r

@@ -39,15 +39,16 @@ given_of s = asked_keys (take s.given s.slots)
 abbrev pub answer_of : {V A : Type 0} → WalkState V A → ℕ → Option Answer
 answer_of s key = stored_at s.slots key
 
--- what a visit means: the empty accumulator, how a body adds a term, and which cells it opens
+-- what a visit means: the empty accumulator, how a body adds a term, which cells it opens, and the mass that was seen
 pub record VisitOf (A : Type 0) : Type 0 where
   pub nothing : A
   pub adds : BodyValue → A → Term → A
   pub opens : BodyValue → CellValue → Bool
+  pub seen : A → ℕ
 
--- the same of a visit's three meanings
-abbrev pub meaning : {V A : Type 0} → (V → A) → (V → BodyValue → A → Term → A) → (V → BodyValue → CellValue → Bool) → V → VisitOf A
-meaning zero adds opens v = record { nothing = zero v; adds = adds v; opens = opens v }
+-- the same of a visit's meanings
+abbrev pub meaning : {V A : Type 0} → (V → A) → (V → BodyValue → A → Term → A) → (V → BodyValue → CellValue → Bool) → (A → ℕ) → V → VisitOf A
+meaning zero adds opens seen v = record { nothing = zero v; adds = adds v; opens = opens v; seen = seen }
 
 -- the fold of a body over a world
 abbrev pub fold_in : {A : Type 0} → VisitOf A → World → BodyValue → A
@@ -85,6 +86,7 @@ pub record AreStored {A : Type 0} (v : VisitOf A) (w : World) (me : ℕ) (slots 
 -- each body's accumulator, with all added that rests of its pairs, is its fold
 pub record IsBalanced {A : Type 0} (v : VisitOf A) (w : World) (bodies : List BodyValue) (accs : List A) (pairs : List PairValue) : Type 0 where
   pub long : length accs ≡ length bodies
+  pub none : 0 < length bodies → v.seen v.nothing ≡ 0
   pub places : All (λ p. p.body < length bodies) pairs
   pub cells : All (IsPair w) pairs
   pub sums : (i : ℕ) (b : BodyValue) (a : A) → slice_get bodies i ≡ Some b → slice_get accs i ≡ Some a
@@ -139,6 +141,7 @@ pub record Stands {V A : Type 0} (v : VisitOf A) (w : World) (s : WalkState V A)
   pub good : IsGood w
   pub bodies : s.piece ≡ piece w s.me
   pub long : length s.accs ≡ length s.piece
+  pub none : 0 < length s.piece → v.seen v.nothing ≡ 0
   pub store : AreStored v w s.me s.slots
   pub fresh : s.started ≡ false → s.starved ≡ false → IsFresh v.nothing s
   pub balance : s.started ≡ true → s.starved ≡ false → IsBalanced v w s.piece s.accs (pairs_in w s.pairs)
@@ -147,8 +150,8 @@ pub record Stands {V A : Type 0} (v : VisitOf A) (w : World) (s : WalkState V A)
   pub waits : s.started ≡ true → s.starved ≡ false → s.advanced ≡ true → All (Waits v w s.me s.piece s.slots) (pairs_in w s.pairs) × NoneBelow s.slots s.pairs
 
 -- the walk stands for a world, by the meanings of its visit
-abbrev pub StandsFor : {V A : Type 0} → (V → A) → (V → BodyValue → A → Term → A) → (V → BodyValue → CellValue → Bool) → World → WalkState V A → Type 0
-StandsFor zero adds opens w s = Stands (meaning zero adds opens s.visit) w s
+abbrev pub StandsFor : {V A : Type 0} → (V → A) → (V → BodyValue → A → Term → A) → (V → BodyValue → CellValue → Bool) → (A → ℕ) → World → WalkState V A → Type 0
+StandsFor zero adds opens seen w s = Stands (meaning zero adds opens seen s.visit) w s
 
 -- what no call but `new` sets
 pub record IsSameWalk {V A : Type 0} (old new : WalkState V A) : Type 0 where

@@ -128,13 +128,13 @@ fn turn<V: Visit, C: Cells>(
     work: &mut Vec<Pair>,
     waiting: &mut Vec<Listed>,
 ) -> Result<(), AllocError>
-    requires fits { (w : World) × (me : ℕ) × (start : Beginning) × (rest : List PairValue) × C.stands cells.now w me × IsGood w × (piece.now ≡ piece_of w me) × Runs (meaning V.zero_of V.adds V.opens_by visit.now) w me start piece.now accs.old tally.old asks.old rest (work.old.items ++ pair ∷ []) (pairs_in w waiting.old.items) }
+    requires fits { (w : World) × (me : ℕ) × (start : Beginning) × (rest : List PairValue) × C.stands cells.now w me × IsGood w × (piece.now ≡ piece_of w me) × Runs (meaning V.zero_of V.adds V.opens_by V.Acc.seen_of visit.now) w me start piece.now accs.old tally.old asks.old rest (work.old.items ++ pair ∷ []) (pairs_in w waiting.old.items) }
     requires body { pair.body < length piece.now }
     requires long { length accs.old ≡ length piece.now }
     ensures lighter { OnOk result (weights work.new.items < weights (work.old.items ++ pair ∷ [])) }
-    ensures stored { (w : World) (me : ℕ) (start : Beginning) (rest : List PairValue) → C.stands cells.now w me → IsGood w → piece.now ≡ piece_of w me → Runs (meaning V.zero_of V.adds V.opens_by visit.now) w me start piece.now accs.old tally.old asks.old rest (work.old.items ++ pair ∷ []) (pairs_in w waiting.old.items) → AreStored (meaning V.zero_of V.adds V.opens_by visit.now) w me asks.new }
+    ensures stored { (w : World) (me : ℕ) (start : Beginning) (rest : List PairValue) → C.stands cells.now w me → IsGood w → piece.now ≡ piece_of w me → Runs (meaning V.zero_of V.adds V.opens_by V.Acc.seen_of visit.now) w me start piece.now accs.old tally.old asks.old rest (work.old.items ++ pair ∷ []) (pairs_in w waiting.old.items) → AreStored (meaning V.zero_of V.adds V.opens_by V.Acc.seen_of visit.now) w me asks.new }
     ensures extends { Extends asks.old asks.new }
-    ensures runs { OnOk result ((w : World) (me : ℕ) (start : Beginning) (rest : List PairValue) → C.stands cells.now w me → IsGood w → piece.now ≡ piece_of w me → Runs (meaning V.zero_of V.adds V.opens_by visit.now) w me start piece.now accs.old tally.old asks.old rest (work.old.items ++ pair ∷ []) (pairs_in w waiting.old.items) → Runs (meaning V.zero_of V.adds V.opens_by visit.now) w me start piece.now accs.new tally.new asks.new rest work.new.items (pairs_in w waiting.new.items)) }
+    ensures runs { OnOk result ((w : World) (me : ℕ) (start : Beginning) (rest : List PairValue) → C.stands cells.now w me → IsGood w → piece.now ≡ piece_of w me → Runs (meaning V.zero_of V.adds V.opens_by V.Acc.seen_of visit.now) w me start piece.now accs.old tally.old asks.old rest (work.old.items ++ pair ∷ []) (pairs_in w waiting.old.items) → Runs (meaning V.zero_of V.adds V.opens_by V.Acc.seen_of visit.now) w me start piece.now accs.new tally.new asks.new rest work.new.items (pairs_in w waiting.new.items)) }
 {
     let body = body_of(&pair);
     let at = body as usize;
@@ -161,10 +161,10 @@ pub fn work_off<V: Visit, C: Cells>(
     work: &mut Vec<Pair>,
     waiting: &mut Vec<Listed>,
 ) -> Result<(), AllocError>
-    requires fits { (w : World) × (me : ℕ) × (start : Beginning) × (rest : List PairValue) × C.stands cells.now w me × IsGood w × (piece.now ≡ piece_of w me) × Runs (meaning V.zero_of V.adds V.opens_by visit.now) w me start piece.now accs.old tally.old asks.old rest work.old.items (pairs_in w waiting.old.items) }
-    ensures stored { (w : World) (me : ℕ) (start : Beginning) (rest : List PairValue) → C.stands cells.now w me → IsGood w → piece.now ≡ piece_of w me → Runs (meaning V.zero_of V.adds V.opens_by visit.now) w me start piece.now accs.old tally.old asks.old rest work.old.items (pairs_in w waiting.old.items) → AreStored (meaning V.zero_of V.adds V.opens_by visit.now) w me asks.new }
+    requires fits { (w : World) × (me : ℕ) × (start : Beginning) × (rest : List PairValue) × C.stands cells.now w me × IsGood w × (piece.now ≡ piece_of w me) × Runs (meaning V.zero_of V.adds V.opens_by V.Acc.seen_of visit.now) w me start piece.now accs.old tally.old asks.old rest work.old.items (pairs_in w waiting.old.items) }
+    ensures stored { (w : World) (me : ℕ) (start : Beginning) (rest : List PairValue) → C.stands cells.now w me → IsGood w → piece.now ≡ piece_of w me → Runs (meaning V.zero_of V.adds V.opens_by V.Acc.seen_of visit.now) w me start piece.now accs.old tally.old asks.old rest work.old.items (pairs_in w waiting.old.items) → AreStored (meaning V.zero_of V.adds V.opens_by V.Acc.seen_of visit.now) w me asks.new }
     ensures extends { Extends asks.old asks.new }
-    ensures runs { OnOk result ((w : World) (me : ℕ) (start : Beginning) (rest : List PairValue) → C.stands cells.now w me → IsGood w → piece.now ≡ piece_of w me → Runs (meaning V.zero_of V.adds V.opens_by visit.now) w me start piece.now accs.old tally.old asks.old rest work.old.items (pairs_in w waiting.old.items) → Runs (meaning V.zero_of V.adds V.opens_by visit.now) w me start piece.now accs.new tally.new asks.new rest [] (pairs_in w waiting.new.items)) }
+    ensures runs { OnOk result ((w : World) (me : ℕ) (start : Beginning) (rest : List PairValue) → C.stands cells.now w me → IsGood w → piece.now ≡ piece_of w me → Runs (meaning V.zero_of V.adds V.opens_by V.Acc.seen_of visit.now) w me start piece.now accs.old tally.old asks.old rest work.old.items (pairs_in w waiting.old.items) → Runs (meaning V.zero_of V.adds V.opens_by V.Acc.seen_of visit.now) w me start piece.now accs.new tally.new asks.new rest [] (pairs_in w waiting.new.items)) }
     ensures empty { OnOk result (work.new.items ≡ []) }
 {
     while let Some(pair) = work.pop() {

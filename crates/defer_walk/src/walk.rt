@@ -50,7 +50,7 @@ impl<V: Visit> Walk<V> {
     /// A walk of a rank's bodies, not started. It stands for every good world in which they are the rank's piece.
     pub fn new(alloc: Global, me: u32, visit: V, piece: &[Body]) -> Result<Walk<V>, AllocError>
         requires fits { (w : World) × IsGood w × (piece.now ≡ piece_of w me) }
-        ensures stands { IfOk result (λ walk. (w : World) → IsGood w → piece.now ≡ piece_of w me → StandsFor V.zero_of V.adds V.opens_by w walk) }
+        ensures stands { IfOk result (λ walk. (w : World) → IsGood w → piece.now ≡ piece_of w me → StandsFor V.zero_of V.adds V.opens_by V.Acc.seen_of w walk) }
         ensures fresh { IfOk result (λ walk. (walk.me ≡ me) × (walk.visit ≡ visit) × (walk.piece ≡ piece.now) × (walk.started ≡ false) × (walk.starved ≡ false)) }
     {
         let accs = nothing_added(alloc, &visit, piece.len())?;
@@ -74,8 +74,8 @@ impl<V: Visit> Walk<V> {
     /// answers want of memory.
     pub fn start<C: Cells>(&mut self, cells: &C) -> Result<(), AllocError>
         requires fresh { self.old.started ≡ false }
-        requires fits { (w : World) × C.stands cells.now w self.old.me × StandsFor V.zero_of V.adds V.opens_by w self.old }
-        ensures stands { (w : World) → C.stands cells.now w self.old.me → StandsFor V.zero_of V.adds V.opens_by w self.old → StandsFor V.zero_of V.adds V.opens_by w self.new }
+        requires fits { (w : World) × C.stands cells.now w self.old.me × StandsFor V.zero_of V.adds V.opens_by V.Acc.seen_of w self.old }
+        ensures stands { (w : World) → C.stands cells.now w self.old.me → StandsFor V.zero_of V.adds V.opens_by V.Acc.seen_of w self.old → StandsFor V.zero_of V.adds V.opens_by V.Acc.seen_of w self.new }
         ensures same { IsSameWalk self.old self.new }
         ensures given { (self.new.slots ≡ self.old.slots) × (self.new.given ≡ self.old.given) }
         ensures ok { OnOk result ((self.new.started ≡ true) × (self.new.advanced ≡ false) × (self.new.starved ≡ false)) }
@@ -101,8 +101,8 @@ impl<V: Visit> Walk<V> {
     /// walk is starved, and a starved walk answers want of memory.
     pub fn advance<C: Cells>(&mut self, cells: &C) -> Result<Progress, AllocError>
         requires started { self.old.started ≡ true }
-        requires fits { (w : World) × C.stands cells.now w self.old.me × StandsFor V.zero_of V.adds V.opens_by w self.old }
-        ensures stands { (w : World) → C.stands cells.now w self.old.me → StandsFor V.zero_of V.adds V.opens_by w self.old → StandsFor V.zero_of V.adds V.opens_by w self.new }
+        requires fits { (w : World) × C.stands cells.now w self.old.me × StandsFor V.zero_of V.adds V.opens_by V.Acc.seen_of w self.old }
+        ensures stands { (w : World) → C.stands cells.now w self.old.me → StandsFor V.zero_of V.adds V.opens_by V.Acc.seen_of w self.old → StandsFor V.zero_of V.adds V.opens_by V.Acc.seen_of w self.new }
         ensures same { IsSameWalk self.old self.new }
     {
         if self.starved {
