@@ -13,8 +13,10 @@ use Rattle.hot_model.specs.Keys.{height, IsCell}
 use Rattle.hot_model.specs.Trees.{Term, Far, Near, added, listed, mass_of, mass_of_body, mass_of_term, child, digits, cell_record, is_empty}
 use Rattle.hot_model.specs.World.{World, IsGood, bodies_in, record_in, is_leaf}
 use Rattle.hot_model.specs.Needs.{part_of, is_away, itself, outer_of}
-use Rattle.hot_model.specs.Answers.{child_records}
+use Rattle.hot_model.specs.Answers.{child_records, true_answer}
 use Rattle.hot_model.specs.Pairs.{PairValue, IsPair, rest_of, still_asked, still_opened, pair_with, child_pairs, weight, weights}
+use Rattle.hot_model.specs.declared.list.Answer.{Answer}
+use Rattle.hot_model.specs.declared.list.Answer.TheVariants.{Bodies, Children}
 use Rattle.hot_model.specs.declared.part.Part.TheVariants.{Inner, Spread, Leaf, Away}
 use Rattle.hot_model.proofs.Parts.{digits-at}
 use Rattle.hot_model.proofs.Members.{all_members, has_map, head_has}
@@ -25,7 +27,7 @@ use Rattle.hot_model.proofs.Walks.{some_length}
 use Rattle.hot_model.proofs.Aways.{leaf-is, spread-is, inner-is}
 use Rattle.hot_model.proofs.Heights.{height_is, height_level, has_children, outer_of_away}
 use Rattle.hot_model.proofs.Steps.{record_some, rest_far, rest_leaf, rest_parted, opened_far, opened_leaf, opened_parted, asked_far, asked_leaf, asked_parted, whole_parted, whole_asked, whole_away, outer_own, children_are, children_lighter}
-use Rattle.defer_walk.specs.Settling.{IsOpened, IsParted, IsChildOf, Settles, Turns, now_opened}
+use Rattle.defer_walk.specs.Settling.{IsOpened, IsParted, IsChildOf, Settles, Turns, Wakes, now_opened}
 
 -- a pair of the world has bodies, and its record has their number and mass
 pub pair_full : (w : World) (p : PairValue) → IsPair w p → (0 < length (bodies_in w p.rec.key)) × (p.rec.count ≡ length (bodies_in w p.rec.key)) × (p.rec.mass ≡ mass_of (bodies_in w p.rec.key))
@@ -54,6 +56,21 @@ whole_opens opens w body (r ∷ rs) = whole_opens opens w body rs
 
 true_false : true ≡ false → {A : Type 0} → A
 true_false e = absurd (let h : true ≡ false = e in cc)
+
+-- what an answer tells of the cell
+pub bodies_answer : (w : World) (c : ℕ) (xs : List BodyValue) → Bodies xs ≡ true_answer w c → (is_leaf w c ≡ true) × (xs ≡ bodies_in w c)
+bodies_answer w c xs e = by_test (is_leaf w c) refl e
+  where
+    by_test : (t : Bool) → is_leaf w c ≡ t → Bodies xs ≡ (if t then Bodies (bodies_in w c) else Children (child_records w c)) → (is_leaf w c ≡ true) × (xs ≡ bodies_in w c)
+    by_test true l f = (l, cc)
+    by_test false l f = absurd (cc)
+
+pub children_answer : (w : World) (c : ℕ) (xs : List CellValue) → Children xs ≡ true_answer w c → (is_leaf w c ≡ false) × (xs ≡ child_records w c)
+children_answer w c xs e = by_test (is_leaf w c) refl e
+  where
+    by_test : (t : Bool) → is_leaf w c ≡ t → Children xs ≡ (if t then Bodies (bodies_in w c) else Children (child_records w c)) → (is_leaf w c ≡ false) × (xs ≡ child_records w c)
+    by_test true l f = absurd (cc)
+    by_test false l f = (l, cc)
 
 module _ {A : Type 0} (add : A → Term → A) (opens : CellValue → Bool) (w : World) (me : ℕ) (p : PairValue) (a : A) (is : IsPair w p) where
   -- what rests of a leaf that is added whole or opened
@@ -203,6 +220,25 @@ module _ {A : Type 0} (add : A → Term → A) (opens : CellValue → Bool) (w :
   -- or the records of the children
   pub answer_children : IsOpened opens p → is_away w me p.rec.key ≡ true → is_leaf w p.rec.key ≡ false → Settles add opens w me p a a (p.rec.key ∷ []) (child_pairs w p false)
   answer_children o y l = inner_settles (p.rec.key ∷ []) o l (rw y refl)
+
+  -- so the owner's answer settles the pair
+  pub wakes_bodies : (old new : List PairValue) (xs ys : List BodyValue) (b : A) → IsOpened opens p → is_away w me p.rec.key ≡ true → Bodies xs ≡ true_answer w p.rec.key → ys ≡ xs → b ≡ added add a (map Near ys) → new ≡ old → Wakes add opens w me p a b old new
+  wakes_bodies old new xs ys b o y e s f same =
+      let l = bodies_answer w p.rec.key xs e in
+      record {
+        next = [];
+        work = same ∙ sym (append-nil old);
+        settles = answer_bodies o y l.0 b (f ∙ ap (λ (zs : List BodyValue). added add a (map Near zs)) (s ∙ l.1));
+      }
+
+  pub wakes_children : (old new : List PairValue) (xs ys : List CellValue) (b : A) → IsOpened opens p → is_away w me p.rec.key ≡ true → Children xs ≡ true_answer w p.rec.key → ys ≡ xs → b ≡ a → new ≡ old ++ map (pair_with p.body false) ys → Wakes add opens w me p a b old new
+  wakes_children old new xs ys b o y e s f g =
+      let l = children_answer w p.rec.key xs e in
+      record {
+        next = child_pairs w p false;
+        work = g ∙ ap (λ (zs : List CellValue). old ++ map (pair_with p.body false) zs) (s ∙ l.1);
+        settles = subst (λ (x : A). Settles add opens w me p a x (p.rec.key ∷ []) (child_pairs w p false)) (sym f) (answer_children o y l.0);
+      }
 
   -- a pair that waits asks for its cell
   pub waiting_asks : IsOpened opens p → is_away w me p.rec.key ≡ true → Contains (still_asked opens w me p) p.rec.key

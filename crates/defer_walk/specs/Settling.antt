@@ -41,3 +41,9 @@ pub record Turns {A : Type 0} (add : A → Term → A) (opens : CellValue → Bo
   pub work : new ≡ old ++ next
   pub settles : Settles add opens w me p a b [] next
   pub at_hand : (next ≡ []) ⊎ (is_away w me p.rec.key ≡ false)
+
+-- a pair whose cell was answered had its turn
+pub record Wakes {A : Type 0} (add : A → Term → A) (opens : CellValue → Bool) (w : World) (me : ℕ) (p : PairValue) (a b : A) (old new : List PairValue) : Type 0 where
+  pub next : List PairValue
+  pub work : new ≡ old ++ next
+  pub settles : Settles add opens w me p a b (p.rec.key ∷ []) next

@@ -1,5 +1,5 @@
 -- What a deferred walk holds, and what it means that it stands for a world.
-use Rattle.std.specs.Prelude.{ℕ, ◌≡◌, ◌≢◌, ◌+◌, ◌<◌, Bool, true, false, List, [], length, map, take, sum_by, All, Contains, Option, Some, None, IfSome, IsSome, slice_get, ◌⊎◌}
+use Rattle.std.specs.Prelude.{ℕ, zero, suc, ◌≡◌, ◌≢◌, ◌+◌, ◌<◌, Bool, true, false, List, [], ◌∷◌, ◌++◌, length, map, take, sum_by, All, Contains, Option, Some, None, IfSome, IsSome, slice_get, ◌⊎◌}
 use Rattle.hot_model.specs.Values.{BodyValue, CellValue}
 use Rattle.hot_model.specs.Keys.{IsCell}
 use Rattle.hot_model.specs.Trees.{Term, added, fold_of, opened, cell_record}
@@ -48,7 +48,7 @@ pub record VisitOf (A : Type 0) : Type 0 where
 
 -- the same of a visit's meanings
 abbrev pub meaning : {V A : Type 0} → (V → A) → (V → BodyValue → A → Term → A) → (V → BodyValue → CellValue → Bool) → (A → ℕ) → V → VisitOf A
-meaning zero adds opens seen v = record { nothing = zero v; adds = adds v; opens = opens v; seen = seen }
+meaning nothing adds opens seen v = record { nothing = nothing v; adds = adds v; opens = opens v; seen = seen }
 
 -- the fold of a body over a world
 abbrev pub fold_in : {A : Type 0} → VisitOf A → World → BodyValue → A
@@ -127,6 +127,11 @@ NoneBelow slots pairs = All (λ s. All (λ p. parent s.key ≢ p.key) pairs) slo
 abbrev pub AreRoots : List Listed → Type 0
 AreRoots pairs = All (λ p. (p.key ≡ 1) × (p.whole ≡ false)) pairs
 
+-- the first n bodies with the root
+abbrev pub roots : ℕ → List Listed
+roots zero = []
+roots (suc n) = roots n ++ (record { body = n; whole = false; key = 1 }) ∷ []
+
 -- nothing was done yet
 pub record IsFresh {V A : Type 0} (nothing : A) (s : WalkState V A) : Type 0 where
   pub pairs : s.pairs ≡ []
@@ -151,7 +156,7 @@ pub record Stands {V A : Type 0} (v : VisitOf A) (w : World) (s : WalkState V A)
 
 -- the walk stands for a world, by the meanings of its visit
 abbrev pub StandsFor : {V A : Type 0} → (V → A) → (V → BodyValue → A → Term → A) → (V → BodyValue → CellValue → Bool) → (A → ℕ) → World → WalkState V A → Type 0
-StandsFor zero adds opens seen w s = Stands (meaning zero adds opens seen s.visit) w s
+StandsFor nothing adds opens seen w s = Stands (meaning nothing adds opens seen s.visit) w s
 
 -- what no call but `new` sets
 pub record IsSameWalk {V A : Type 0} (old new : WalkState V A) : Type 0 where
