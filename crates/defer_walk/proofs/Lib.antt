@@ -5,3 +5,4 @@ pub mod Indexed
 pub mod Keeping
 pub mod Openings
 pub mod Turnings
+pub mod Advances
