@@ -1,12 +1,12 @@
 -- How an advance takes up the pairs that are left, one by one.
-use Rattle.std.proofs.Common.{ℕ, zero, suc, ◌≡◌, ◌+◌, ◌-◌, ◌<◌, ◌≤◌, Bool, true, false, List, [], ◌∷◌, ◌++◌, length, map, set, sym, refl, ap, ◌∙◌, subst, inl, inr, arith, Option, Some, None, append_assoc}
-use Rattle.std.specs.Prelude.{All, Contains, ◌⊎◌, IfSome, IsSome, slice_get}
+use Rattle.std.proofs.Common.{ℕ, zero, suc, ◌≡◌, ◌+◌, ◌-◌, ◌^◌, ◌<◌, ◌≤◌, Bool, true, false, List, [], ◌∷◌, ◌++◌, length, map, set, sym, refl, ap, ◌∙◌, subst, inl, inr, arith, Option, Some, None, append_assoc}
+use Rattle.std.specs.Prelude.{All, Contains, ◌⊎◌, IfSome, IsSome, slice_get, if◌then◌else◌}
 use Rattle.std.proofs.lemmas.List.{append-nil, map-append}
-use Rattle.std.proofs.lemmas.List.Elements.{All-append, All-nil, Contains-append_left}
+use Rattle.std.proofs.lemmas.List.Elements.{All-append, All-nil, Contains-append_left, Contains-append_right}
 use Rattle.hot_model.specs.Limits.{max_all_mass}
 use Rattle.hot_model.specs.Values.{BodyValue, CellValue}
 use Rattle.hot_model.specs.Keys.{IsCell}
-use Rattle.hot_model.specs.Trees.{Term, child, mass_of, cell_record}
+use Rattle.hot_model.specs.Trees.{Term, child, mass_of, mass_of_term, cell_record}
 use Rattle.hot_model.specs.World.{World, IsGood, piece, bodies_in, record_in}
 use Rattle.hot_model.specs.Branches.{IsBranch, IsOfRank, parent}
 use Rattle.hot_model.specs.Needs.{part_of, is_away}
@@ -23,14 +23,15 @@ use Rattle.hot_model.proofs.Steps.{record_some}
 use Rattle.hot_model.proofs.Members.{map_has}
 use Rattle.defer_walk.specs.declared.asks.Slot.{Slot}
 use Rattle.defer_walk.specs.declared.listed.Listed.{Listed}
-use Rattle.defer_walk.specs.Asked.{asked_keys, stored_at}
+use Rattle.defer_walk.specs.Asked.{asked_keys, stored_at, Extends}
 use Rattle.defer_walk.specs.Settling.{IsOpened, IsChildOf, Settles, Wakes, now_opened}
 use Rattle.defer_walk.specs.Tallies.{TallyValue, Notes}
 use Rattle.defer_walk.specs.Standing.{VisitOf, AreStored, Waits, IsAwake, AreRoots, pair_in, pairs_in}
 use Rattle.defer_walk.specs.Turning.{Beginning, ComesFrom, Asks, Keeps, Runs}
 use Rattle.defer_walk.proofs.Settles.{pair_full}
 use Rattle.defer_walk.proofs.Keeping.{All-front, All-back, All-one, get_has, keeps_settled, keeps_moved}
-use Rattle.defer_walk.proofs.Turnings.{All-has, away_test}
+use Rattle.defer_walk.proofs.Turnings.{All-has, away_test, keeps_fits, keeps_room}
+use Rattle.defer_walk.proofs.Slots.{keys_extend, stored_extends, stored_true}
 use Rattle.defer_walk.proofs.Noted.{one_has}
 
 -- a child of a cell of another rank is of that rank too
@@ -133,3 +134,78 @@ module _ {A : Type 0} (v : VisitOf A) (w : World) (me : ℕ) (start : Beginning)
       (b.0, subst (IsBranch w b.0) (sym at.0) b.1)) in
       subst (λ (ps : List PairValue). Runs v w me start bodies accs tally slots (pairs_in w ls') ps ws) (sym work)
       (runs_taken v w me start bodies accs tally slots (pairs_in w ls') ws (pair_in w l) split (subst (λ (x : Bool). ComesFrom x w me start (pair_in w l)) (sym first) comes))
+
+-- a pair that is left was there at the start
+pub was_there : (all ls ls' more : List Listed) (l : Listed) → all ≡ ls ++ more → ls ≡ ls' ++ l ∷ [] → Contains all l
+was_there all ls ls' more l e f =
+    subst (λ (xs : List Listed). Contains xs l) (sym e)
+    (Contains-append_left ls more l (subst (λ (xs : List Listed). Contains xs l) (sym f) (Contains-append_right ls' (l ∷ []) l (0, omega arith, refl))))
+
+pub more_left : (all ls ls' more : List Listed) (l : Listed) → all ≡ ls ++ more → ls ≡ ls' ++ l ∷ [] → all ≡ ls' ++ (l ∷ more)
+more_left all ls ls' more l e f = e ∙ ap (λ (xs : List Listed). xs ++ more) f ∙ append_assoc ls' (l ∷ []) more
+
+-- the cell that is opened with a pair that waits
+pub noted_is : (opens : CellValue → Bool) (p : PairValue) → IsOpened opens p → now_opened opens p ≡ (if p.whole then [] else (p.rec.key ∷ []))
+noted_is opens p o = by_whole p.whole refl
+  where
+    by_whole : (t : Bool) → p.whole ≡ t → (if t then [] else (if opens p.rec then p.rec.key ∷ [] else [])) ≡ (if t then [] else (p.rec.key ∷ []))
+    by_whole true e = refl
+    by_whole false e = elim o [
+      | inl f ↦ absurd (let h : true ≡ false = sym f ∙ e in cc)
+      | inr f ↦ rw f refl
+    ]
+
+module _ {A : Type 0} (v : VisitOf A) (w : World) (me : ℕ) (start : Beginning) (bodies : List BodyValue) (accs : List A) (tally : TallyValue) (slots : List Slot) (all ls ls' more : List Listed) (l : Listed) (ws : List PairValue)
+    (late : start.advanced ≡ true) (same : start.pairs ≡ all) (waited : All (Waits v w me bodies start.slots) (pairs_in w all)) (e : all ≡ ls ++ more) (f : ls ≡ ls' ++ l ∷ []) (r : Runs v w me start bodies accs tally slots (pairs_in w ls) [] ws) where
+  split : Runs v w me start bodies accs tally slots (pairs_in w ls' ++ pair_in w l ∷ []) [] ws
+  split = subst (λ (ps : List PairValue). Runs v w me start bodies accs tally slots ps [] ws) (pairs_more w ls' ls l f) r
+
+  there : Contains all l
+  there = was_there all ls ls' more l e f
+
+  waits : Waits v w me bodies start.slots (pair_in w l)
+  waits = All-has (Waits v w me bodies start.slots) (pairs_in w all) (pair_in w l) waited (map_has (pair_in w) all l there)
+
+  extends : Extends start.slots slots
+  extends = record { more = r.asks.more; new_is = r.asks.slots_are; unanswered = r.asks.unanswered }
+
+  pub left_pair : IsPair w (pair_in w l)
+  left_pair = last_pair v w me start bodies accs tally slots (pairs_in w ls') ws (pair_in w l) split
+
+  pub left_body : l.body < length bodies
+  left_body = last_body v w me start bodies accs tally slots (pairs_in w ls') ws (pair_in w l) split
+
+  pub left_away : is_away w me l.key ≡ true
+  left_away = away_test w me waits.away.0 l.key left_pair.cell (pair_full w (pair_in w l) left_pair).0 waits.away.1
+
+  pub left_opened : (b : BodyValue) → slice_get bodies l.body ≡ Some b → IsOpened (v.opens b) (pair_in w l)
+  left_opened b h = waits.opened b h
+
+  -- the pair still waits
+  pub left_waits : ((b : BodyValue) → MaySwap (v.adds b)) → (ws' : List Listed) (w₀ : List Listed) → ws ≡ pairs_in w w₀ → ws' ≡ w₀ ++ l ∷ [] → stored_at slots l.key ≡ None → Runs v w me start bodies accs tally slots (pairs_in w ls') [] (pairs_in w ws')
+  left_waits swap ws' w₀ is push none =
+      subst (λ (ps : List PairValue). Runs v w me start bodies accs tally slots (pairs_in w ls') [] ps) (ap (λ (ps : List PairValue). ps ++ pair_in w l ∷ []) is ∙ sym (pairs_more w w₀ ws' l push))
+      (runs_still v w me start bodies accs tally slots (pairs_in w ls') ws (pair_in w l) split swap (record { opened = waits.opened; away = waits.away; asked = keys_extend start.slots slots l.key extends waits.asked }) none)
+
+  -- the pair was answered
+  pub left_wakes : ((b : BodyValue) → MaySwap (v.adds b)) → (answer : Answer) → stored_at slots l.key ≡ Some answer → (tally' : TallyValue) (new : List PairValue) (b : BodyValue) (a a' : A) → slice_get bodies l.body ≡ Some b → slice_get accs l.body ≡ Some a
+      → Wakes (v.adds b) (v.opens b) w me (pair_in w l) a a' [] new → Notes tally tally' (if l.whole then [] else (l.key ∷ [])) → Runs v w me start bodies (set accs l.body a') tally' slots (pairs_in w ls') new ws
+  left_wakes swap answer got tally' new b a a' pb pa t n =
+      runs_woken v w me start bodies accs tally slots (pairs_in w ls') ws (pair_in w l) split swap late tally' new b a a' pb pa left_away (keys_extend start.slots slots l.key extends waits.asked)
+      (subst (λ (ps : List Listed). Contains (map (λ x. x.key) ps) l.key) (sym same) (map_has (λ (x : Listed). x.key) all l there), subst (λ (o : Option Answer). IsSome o) (sym (sym (stored_extends start.slots slots l.key extends) ∙ got)) refl)
+      t (subst (Notes tally tally') (sym (noted_is (v.opens b) (pair_in w l) (left_opened b pb))) n)
+
+  pub left_true : (answer : Answer) → stored_at slots l.key ≡ Some answer → answer ≡ true_answer w l.key
+  left_true answer got = stored_true w slots l.key answer r.keeps.store.truth got
+
+  pub left_fits : ((b : BodyValue) (a : A) (t : Term) → v.seen (v.adds b a t) ≡ v.seen a + mass_of_term t) → IsGood w → (b : BodyValue) (a : A) → slice_get bodies l.body ≡ Some b → slice_get accs l.body ≡ Some a → v.seen a + mass_of (bodies_in w l.key) ≤ max_all_mass
+  left_fits sees good b a pb pa = keeps_fits v w me bodies accs tally slots (ws ++ pairs_in w ls') (pair_in w l) ended left_pair left_body sees good b a pb pa
+    where
+      ended : Keeps v w me bodies accs tally slots ((ws ++ pairs_in w ls') ++ pair_in w l ∷ [])
+      ended = subst (Keeps v w me bodies accs tally slots) (ap (λ (ps : List PairValue). ws ++ ps) (append-nil (pairs_in w ls' ++ pair_in w l ∷ [])) ∙ sym (append_assoc ws (pairs_in w ls') (pair_in w l ∷ []))) split.keeps
+
+  pub left_room : IsGood w → bodies ≡ piece w me → tally.opened < 2 ^ 64 - 1
+  left_room good own = keeps_room v w me bodies accs tally slots (ws ++ pairs_in w ls') (pair_in w l) ended left_pair left_body good own
+    where
+      ended : Keeps v w me bodies accs tally slots ((ws ++ pairs_in w ls') ++ pair_in w l ∷ [])
+      ended = subst (Keeps v w me bodies accs tally slots) (ap (λ (ps : List PairValue). ws ++ ps) (append-nil (pairs_in w ls' ++ pair_in w l ∷ [])) ∙ sym (append_assoc ws (pairs_in w ls') (pair_in w l ∷ []))) split.keeps

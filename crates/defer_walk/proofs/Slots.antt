@@ -5,6 +5,8 @@ use Rattle.std.proofs.lemmas.List.{append-nil, map-append, take-append-drop}
 use Rattle.std.proofs.lemmas.List.Elements.{All-append, All-nil, All-cons, All-head, All-tail, All-weaker, Contains-append_left, Contains-append_right}
 use Rattle.std.proofs.lemmas.Option.{slice_get_within}
 use Rattle.std.specs.Prelude.{map, slice_get, Contains, IfSome, All, ◌⊎◌, if◌then◌else◌}
+use Rattle.hot_model.specs.World.{World}
+use Rattle.hot_model.specs.Answers.{true_answer}
 use Rattle.hot_model.specs.declared.list.Answer.{Answer}
 use Rattle.defer_walk.specs.declared.asks.Slot.{Slot}
 use Rattle.defer_walk.specs.Asked.{asked_keys, stored_at, filled, Grows, Extends}
@@ -198,3 +200,12 @@ module _ (key : ℕ) (answer : Answer) where
       by_key : (b : Bool) → (b ≡ true → x.key ≡ key) → stored_at (filled xs key answer) k ≡ stored_at xs k → stored_at (if b then (record { owner = x.owner; key = x.key; answer = Some answer }) ∷ xs else (x ∷ filled xs key answer)) k ≡ stored_at (x ∷ xs) k
       by_key true e ih = rw (ne_eqb x.key k (λ f. n (sym f ∙ e refl))) refl
       by_key false e ih = ap (λ (o : Option Answer). if eqb x.key k then x.answer else o) ih
+
+-- what is stored for a key is true of it
+pub stored_true : (w : World) (xs : List Slot) (k : ℕ) (a : Answer) → All (λ s. IfSome s.answer (λ a. a ≡ true_answer w s.key)) xs → stored_at xs k ≡ Some a → a ≡ true_answer w k
+stored_true w [] k a h e = absurd (cc)
+stored_true w (x ∷ xs) k a h e = by_key (eqb x.key k) (λ b. eqb-true x.key k b) (λ f. stored_true w xs k a (All-tail (λ (s : Slot). IfSome s.answer (λ a. a ≡ true_answer w s.key)) x xs h) f) e
+  where
+    by_key : (b : Bool) → (b ≡ true → x.key ≡ k) → (stored_at xs k ≡ Some a → a ≡ true_answer w k) → (if b then x.answer else stored_at xs k) ≡ Some a → a ≡ true_answer w k
+    by_key true same ih f = subst (λ (n : ℕ). a ≡ true_answer w n) (same refl) (subst (λ (o : Option Answer). IfSome o (λ a. a ≡ true_answer w x.key)) f (All-head (λ (s : Slot). IfSome s.answer (λ a. a ≡ true_answer w s.key)) x xs h))
+    by_key false same ih f = ih f

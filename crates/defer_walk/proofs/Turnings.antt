@@ -69,6 +69,40 @@ to_end ws rs fs p = ap (λ (ps : List PairValue). ws ++ ps) (sym (append_assoc r
 from_end : (ws rs fs next : List PairValue) → (ws ++ (rs ++ fs)) ++ next ≡ ws ++ (rs ++ (fs ++ next))
 from_end ws rs fs next = append_assoc ws (rs ++ fs) next ∙ ap (λ (ps : List PairValue). ws ++ ps) (append_assoc rs fs next)
 
+-- what is kept bounds the mass seen and the count of opened cells
+module _ {A : Type 0} (v : VisitOf A) (w : World) (me : ℕ) (bodies : List BodyValue) (accs : List A) (tally : TallyValue) (slots : List Slot) (keep : List PairValue) (p : PairValue) (k : Keeps v w me bodies accs tally slots (keep ++ p ∷ [])) (is : IsPair w p) (within : p.body < length bodies) where
+  mass_by : (b : BodyValue) (t : Bool) → p.whole ≡ t → sum_by mass_of_term (rest_of (v.opens b) w p) ≡ mass_of (bodies_in w p.rec.key)
+  mass_by b true e = rw e (mass-listed (bodies_in w p.rec.key))
+  mass_by b false e = rw e (mass-terms (v.opens b) w.leaf w.bodies (height p.rec.key) p.rec.key (omega arith) (height_level p.rec.key is.cell))
+
+  mass_rest : (b : BodyValue) → sum_by mass_of_term (rest_of (v.opens b) w p) ≡ p.rec.mass
+  mass_rest b = mass_by b p.whole refl ∙ sym (pair_full w p is).2
+
+  -- the accumulator has room for what rests of the pair
+  pub keeps_fits : ((b : BodyValue) (a : A) (t : Term) → v.seen (v.adds b a t) ≡ v.seen a + mass_of_term t) → IsGood w → (b : BodyValue) (a : A) → slice_get bodies p.body ≡ Some b → slice_get accs p.body ≡ Some a → v.seen a + p.rec.mass ≤ max_all_mass
+  keeps_fits sees good b a pb pa =
+      let none = k.balance.none (omega (arith, within)) in
+      let f = rest_of (v.opens b) w in
+      let sums = ap v.seen (k.balance.sums p.body b a pb pa) in
+      let left = seen-added v.seen (v.adds b) (sees b) a (rests_at f p.body (keep ++ p ∷ [])) in
+      let right = seen-added v.seen (v.adds b) (sees b) v.nothing (terms (v.opens b) w.leaf w.bodies) in
+      let mass = mass-all_terms (v.opens b) w.leaf w.bodies in
+      let parts = ap (sum_by mass_of_term) (rests-append f p.body keep (p ∷ []) ∙ ap (λ (ts : List Term). rests_at f p.body keep ++ ts) (rests_one f p)) ∙ sum_by-append mass_of_term (rests_at f p.body keep) (f p) in
+      omega (arith, sums, left, right, mass, parts, mass_rest b, good.light, none)
+
+  -- and the count of opened cells
+  pub keeps_room : IsGood w → bodies ≡ piece w me → tally.opened < 2 ^ 64 - 1
+  keeps_room good own =
+      let count = k.count.opened in
+      let each = all_short (opened_by v w) (22 * length w.bodies) (λ b. opened_short (v.opens b) w.leaf w.bodies) bodies in
+      let short : length bodies ≤ length w.bodies = subst (λ (xs : List BodyValue). length xs ≤ length w.bodies) (sym own) (filter_short _ w.bodies) in
+      let few : length w.bodies ≤ max_bodies = good.few in
+      let one : 22 * length w.bodies ≤ 22 * max_bodies = mul-le-mul_left 22 few in
+      let two : 22 * length w.bodies * length bodies ≤ 22 * max_bodies * length bodies = mul-le-mul_right (length bodies) one in
+      let all : length bodies ≤ max_bodies = omega (arith, short, few) in
+      let three : 22 * max_bodies * length bodies ≤ 22 * max_bodies * max_bodies = mul-le-mul_left (22 * max_bodies) all in
+      omega (arith, count, each, two, three)
+
 module _ {A : Type 0} (v : VisitOf A) (w : World) (me : ℕ) (start : Beginning) (bodies : List BodyValue) where
   module _ (accs : List A) (tally : TallyValue) (slots : List Slot) (rest front waiting : List PairValue) (p : PairValue) (r : Runs v w me start bodies accs tally slots rest (front ++ p ∷ []) waiting) where
     at_end : (P : PairValue → Type 0) → All P (waiting ++ (rest ++ (front ++ p ∷ []))) → P p
@@ -86,39 +120,12 @@ module _ {A : Type 0} (v : VisitOf A) (w : World) (me : ℕ) (start : Beginning)
     ended : Keeps v w me bodies accs tally slots ((waiting ++ (rest ++ front)) ++ p ∷ [])
     ended = subst (Keeps v w me bodies accs tally slots) (to_end waiting rest front p) r.keeps
 
-    -- the accumulator has room for what rests of the pair
+    -- there is room for what rests of the pair
     pub turn_fits : ((b : BodyValue) (a : A) (t : Term) → v.seen (v.adds b a t) ≡ v.seen a + mass_of_term t) → IsGood w → (b : BodyValue) (a : A) → slice_get bodies p.body ≡ Some b → slice_get accs p.body ≡ Some a → v.seen a + p.rec.mass ≤ max_all_mass
-    turn_fits sees good b a pb pa =
-        let seen = v.seen in
-        let none = ended.balance.none (omega (arith, turn_body)) in
-        let f = rest_of (v.opens b) w in
-        let keep = waiting ++ (rest ++ front) in
-        let sums = ap seen (ended.balance.sums p.body b a pb pa) in
-        let left = seen-added seen (v.adds b) (sees b) a (rests_at f p.body (keep ++ p ∷ [])) in
-        let right = seen-added seen (v.adds b) (sees b) v.nothing (terms (v.opens b) w.leaf w.bodies) in
-        let mass = mass-all_terms (v.opens b) w.leaf w.bodies in
-        let parts = ap (sum_by mass_of_term) (rests-append f p.body keep (p ∷ []) ∙ ap (λ (ts : List Term). rests_at f p.body keep ++ ts) (rests_one f p)) ∙ sum_by-append mass_of_term (rests_at f p.body keep) (f p) in
-        omega (arith, sums, left, right, mass, parts, mass_rest b, good.light, none)
-      where
-        mass_by : (b : BodyValue) (t : Bool) → p.whole ≡ t → sum_by mass_of_term (rest_of (v.opens b) w p) ≡ mass_of (bodies_in w p.rec.key)
-        mass_by b true e = rw e (mass-listed (bodies_in w p.rec.key))
-        mass_by b false e = rw e (mass-terms (v.opens b) w.leaf w.bodies (height p.rec.key) p.rec.key (omega arith) (height_level p.rec.key turn_pair.cell))
+    turn_fits = keeps_fits v w me bodies accs tally slots (waiting ++ (rest ++ front)) p ended turn_pair turn_body
 
-        mass_rest : (b : BodyValue) → sum_by mass_of_term (rest_of (v.opens b) w p) ≡ p.rec.mass
-        mass_rest b = mass_by b p.whole refl ∙ sym (pair_full w p turn_pair).2
-
-    -- the count of opened cells has room
     pub turn_room : IsGood w → bodies ≡ piece w me → tally.opened < 2 ^ 64 - 1
-    turn_room good own =
-        let count = r.keeps.count.opened in
-        let each = all_short (opened_by v w) (22 * length w.bodies) (λ b. opened_short (v.opens b) w.leaf w.bodies) bodies in
-        let short : length bodies ≤ length w.bodies = subst (λ (xs : List BodyValue). length xs ≤ length w.bodies) (sym own) (filter_short _ w.bodies) in
-        let few : length w.bodies ≤ max_bodies = good.few in
-        let one : 22 * length w.bodies ≤ 22 * max_bodies = mul-le-mul_left 22 few in
-        let two : 22 * length w.bodies * length bodies ≤ 22 * max_bodies * length bodies = mul-le-mul_right (length bodies) one in
-        let all : length bodies ≤ max_bodies = omega (arith, short, few) in
-        let three : 22 * max_bodies * length bodies ≤ 22 * max_bodies * max_bodies = mul-le-mul_left (22 * max_bodies) all in
-        omega (arith, count, each, two, three)
+    turn_room = keeps_room v w me bodies accs tally slots (waiting ++ (rest ++ front)) p ended turn_pair turn_body
 
     -- work below a cell at hand comes from where it should
     comes_below : (t : Bool) → ComesFrom t w me start p → (next : List PairValue) → All (IsPair w) next → All (λ q. IsChildOf p.rec.key q.rec.key) next → is_away w me p.rec.key ≡ false → All (ComesFrom t w me start) next
