@@ -1,12 +1,12 @@
 -- How an advance takes up the pairs that are left, one by one.
 use Rattle.std.proofs.Common.{ℕ, zero, suc, ◌≡◌, ◌+◌, ◌-◌, ◌^◌, ◌<◌, ◌≤◌, Bool, true, false, List, [], ◌∷◌, ◌++◌, length, map, set, sym, refl, ap, ◌∙◌, subst, inl, inr, arith, Option, Some, None, append_assoc}
-use Rattle.std.specs.Prelude.{All, Contains, ◌⊎◌, IfSome, IsSome, slice_get, if◌then◌else◌}
+use Rattle.std.specs.Prelude.{Result, Ok, Err, OnOk, All, Contains, ◌⊎◌, IfSome, IsSome, slice_get, if◌then◌else◌}
 use Rattle.std.proofs.lemmas.List.{append-nil, map-append}
 use Rattle.std.proofs.lemmas.List.Elements.{All-append, All-nil, Contains-append_left, Contains-append_right}
 use Rattle.hot_model.specs.Limits.{max_all_mass}
 use Rattle.hot_model.specs.Values.{BodyValue, CellValue}
 use Rattle.hot_model.specs.Keys.{IsCell}
-use Rattle.hot_model.specs.Trees.{Term, child, mass_of, mass_of_term, cell_record}
+use Rattle.hot_model.specs.Trees.{is_empty, Term, child, mass_of, mass_of_term, cell_record}
 use Rattle.hot_model.specs.World.{World, IsGood, piece, bodies_in, record_in}
 use Rattle.hot_model.specs.Branches.{IsBranch, IsOfRank, parent}
 use Rattle.hot_model.specs.Needs.{part_of, is_away}
@@ -14,6 +14,8 @@ use Rattle.hot_model.specs.Answers.{true_answer}
 use Rattle.hot_model.specs.Pairs.{PairValue, IsPair, pair_with, MaySwap}
 use Rattle.hot_model.specs.declared.list.Answer.{Answer}
 use Rattle.hot_model.specs.declared.part.Part.TheVariants.{Away}
+use Rattle.std.proofs.lemmas.Bool.{eqb-true}
+use Rattle.hot_model.proofs.Parts.{inside-root}
 use Rattle.hot_model.proofs.Aways.{away_own, own_away}
 use Rattle.hot_model.proofs.Asks.{child_covers}
 use Rattle.hot_model.proofs.Owners.{covered_own}
@@ -30,7 +32,7 @@ use Rattle.defer_walk.specs.Standing.{VisitOf, AreStored, Waits, IsAwake, AreRoo
 use Rattle.defer_walk.specs.Turning.{Beginning, ComesFrom, Asks, Keeps, Runs}
 use Rattle.defer_walk.proofs.Settles.{pair_full}
 use Rattle.defer_walk.proofs.Keeping.{All-front, All-back, All-one, get_has, keeps_settled, keeps_moved}
-use Rattle.defer_walk.proofs.Turnings.{All-has, away_test, keeps_fits, keeps_room}
+use Rattle.defer_walk.proofs.Turnings.{All-has, away_test, keeps_fits, keeps_room, filter_short}
 use Rattle.defer_walk.proofs.Slots.{keys_extend, stored_extends, stored_true}
 use Rattle.defer_walk.proofs.Noted.{one_has}
 
@@ -108,9 +110,10 @@ module _ {A : Type 0} (v : VisitOf A) (w : World) (me : ℕ) (start : Beginning)
       below : All (ComesFrom true w me start) t.next
       below = λ k d h.
           let c = t.settles.below k d h in
-          let q = t.settles.pairs k d h in
-          (subst (IsAwake start.slots start.pairs) (sym (ap parent c.1.2 ∙ parent_of_child p.rec.key c.1.0 c.1.1)) awake,
-            away_below w me p.rec.key _ last_pair.cell c (pair_full w _ q).0 y)
+          let q = t.settles.pairs k d h in (
+            subst (IsAwake start.slots start.pairs) (sym (ap parent c.1.2 ∙ parent_of_child p.rec.key c.1.0 c.1.1)) awake,
+            away_below w me p.rec.key _ last_pair.cell c (pair_full w _ q).0 y,
+          )
 
 -- the first pairs that are left, and the last of them
 pub front_of : (P : Listed → Type 0) (ls ls' : List Listed) (l : Listed) → ls ≡ ls' ++ l ∷ [] → All P ls → All P ls'
@@ -209,3 +212,25 @@ module _ {A : Type 0} (v : VisitOf A) (w : World) (me : ℕ) (start : Beginning)
     where
       ended : Keeps v w me bodies accs tally slots ((ws ++ pairs_in w ls') ++ pair_in w l ∷ [])
       ended = subst (Keeps v w me bodies accs tally slots) (ap (λ (ps : List PairValue). ws ++ ps) (append-nil (pairs_in w ls' ++ pair_in w l ∷ [])) ∙ sym (append_assoc ws (pairs_in w ls') (pair_in w l ∷ []))) split.keeps
+
+-- without bodies there are no pairs
+pub none_left : {A : Type 0} (v : VisitOf A) (w : World) (me : ℕ) (start : Beginning) (bodies : List BodyValue) (accs : List A) (tally : TallyValue) (slots : List Slot) (ls : List Listed) (ws : List PairValue)
+    → bodies ≡ piece w me → record_in w 1 ≡ None → Runs v w me start bodies accs tally slots (pairs_in w ls) [] ws → ls ≡ []
+none_left v w me start bodies accs tally slots [] ws own none r = refl
+none_left v w me start bodies accs tally slots (l ∷ ls) ws own none r =
+    let places = subst (λ (ps : List PairValue). All (λ q. q.body < length bodies) (ws ++ ps)) (append-nil (pairs_in w (l ∷ ls))) r.keeps.balance.places in
+    let first = All-has (λ (q : PairValue). q.body < length bodies) (pair_in w l ∷ pairs_in w ls) (pair_in w l) (All-back (λ (q : PairValue). q.body < length bodies) ws (pair_in w l ∷ pairs_in w ls) places) (0, omega arith, refl) in
+    let few : length bodies ≤ length w.bodies = subst (λ (xs : List BodyValue). length xs ≤ length w.bodies) (sym own) (filter_short _ w.bodies) in
+    absurd (omega (arith, first, few, no_bodies w none))
+  where
+    no_bodies : (w : World) → record_in w 1 ≡ None → length w.bodies ≡ 0
+    no_bodies w e = by_test (is_empty (bodies_in w 1)) refl e
+      where
+        by_test : (t : Bool) → is_empty (bodies_in w 1) ≡ t → (if t then None else Some (cell_record w.bodies 1)) ≡ None → length w.bodies ≡ 0
+        by_test true f g = ap length (sym (inside-root w.bodies)) ∙ eqb-true _ _ f
+        by_test false f g = absurd (cc)
+
+-- what holds at Ok, and what follows from it
+pub on_ok : {T E : Type 0} (r : Result T E) (P Q : Type 0) → (P → Q) → OnOk r P → OnOk r Q
+on_ok (Ok x) P Q f h = f h
+on_ok (Err e) P Q f h = h

@@ -39,7 +39,7 @@ use Rattle.defer_walk.proofs.Settles.{pair_full, nine_pos, waiting_asks}
 use Rattle.defer_walk.proofs.Keeping.{All-front, All-back, All-one, get_has, rests_one, end_rests, keeps_settled, keeps_moved, keeps_asked}
 use Rattle.defer_walk.proofs.Openings.{opened_short, all_short}
 
-filter_short : {A : Type 0} (p : A → Bool) (xs : List A) → length (filter p xs) ≤ length xs
+pub filter_short : {A : Type 0} (p : A → Bool) (xs : List A) → length (filter p xs) ≤ length xs
 filter_short p [] = omega arith
 filter_short {A} p (x ∷ xs) = elim (p x) as (λ (t : Bool). length (cond t (x ∷ filter p xs) (filter p xs)) ≤ suc (length xs)) [
   | true ↦ omega (arith, filter_short p xs)

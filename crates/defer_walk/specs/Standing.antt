@@ -1,5 +1,5 @@
 -- What a deferred walk holds, and what it means that it stands for a world.
-use Rattle.std.specs.Prelude.{ℕ, zero, suc, ◌≡◌, ◌≢◌, ◌+◌, ◌<◌, Bool, true, false, List, [], ◌∷◌, ◌++◌, length, map, take, sum_by, All, Contains, Option, Some, None, IfSome, IsSome, slice_get, ◌⊎◌}
+use Rattle.std.specs.Prelude.{ℕ, zero, suc, ◌≡◌, ◌≢◌, ◌+◌, ◌<◌, ◌≤◌, Bool, true, false, List, [], ◌∷◌, ◌++◌, length, map, take, sum_by, All, Contains, Option, Some, None, IfSome, IsSome, slice_get, ◌⊎◌}
 use Rattle.hot_model.specs.Values.{BodyValue, CellValue}
 use Rattle.hot_model.specs.Keys.{IsCell}
 use Rattle.hot_model.specs.Trees.{Term, added, fold_of, opened, cell_record}
@@ -11,6 +11,8 @@ use Rattle.hot_model.specs.Pairs.{PairValue, IsPair, pair_with, rest_of, still_o
 use Rattle.hot_model.specs.declared.list.Answer.{Answer}
 use Rattle.hot_model.specs.declared.part.Part.TheVariants.{Away}
 use Rattle.defer_walk.specs.declared.asks.Slot.{Slot}
+use Rattle.defer_walk.specs.declared.progress.Progress.{Progress}
+use Rattle.defer_walk.specs.declared.progress.Progress.TheVariants.{Done, Waiting}
 use Rattle.defer_walk.specs.declared.listed.Listed.{Listed}
 use Rattle.defer_walk.specs.Asked.{asked_keys, stored_at}
 use Rattle.defer_walk.specs.Settling.{IsOpened}
@@ -163,6 +165,21 @@ pub record IsSameWalk {V A : Type 0} (old new : WalkState V A) : Type 0 where
   pub me : new.me ≡ old.me
   pub visit : new.visit ≡ old.visit
   pub piece : new.piece ≡ old.piece
+
+-- and what neither `asked` nor `supply` changes
+pub record IsSameStage {V A : Type 0} (old new : WalkState V A) : Type 0 where
+  pub accs : new.accs ≡ old.accs
+  pub pairs : new.pairs ≡ old.pairs
+  pub slots : new.slots ≡ old.slots
+  pub tally : new.tally ≡ old.tally
+  pub started : new.started ≡ old.started
+  pub advanced : new.advanced ≡ old.advanced
+  pub starved : new.starved ≡ old.starved
+
+-- what an advance answers: that no pair is left, or how many wait
+abbrev pub IsProgress : Progress → List Listed → Type 0
+IsProgress Done pairs = pairs ≡ []
+IsProgress (Waiting n) pairs = (1 ≤ n) × (n ≡ length pairs)
 
 -- a pair waited for the cell, and the answer has come
 abbrev pub IsAwake : List Slot → List Listed → ℕ → Type 0

@@ -9,7 +9,7 @@ use Rattle.defer_walk.specs.declared.asks.Slot.{Slot}
 use Rattle.defer_walk.specs.declared.listed.Listed.{Listed}
 use Rattle.defer_walk.specs.Asked.{stored_at}
 use Rattle.defer_walk.specs.Tallies.{TallyValue}
-use Rattle.defer_walk.specs.Standing.{VisitOf, AreStored, IsBalanced, IsCounted, Waits, NoneBelow, IsAwake, IsNewAsk}
+use Rattle.defer_walk.specs.Standing.{VisitOf, AreStored, IsBalanced, IsCounted, Waits, NoneBelow, IsAwake, IsNewAsk, AreRoots, pairs_in}
 
 -- an advance as it began: whether there was one before, and the cells asked for and the pairs at that time
 pub record Beginning : Type 0 where
@@ -49,3 +49,8 @@ pub record Runs {A : Type 0} (v : VisitOf A) (w : World) (me : ℕ) (start : Beg
   pub comes : All (ComesFrom start.advanced w me start) work
   pub waits : All (Waits v w me bodies slots) waiting
   pub absent : All (λ p. stored_at slots p.rec.key ≡ None) waiting
+
+-- the pairs that an advance begins with: bodies with the root, and later pairs that wait
+abbrev pub AreReady : {A : Type 0} → Bool → VisitOf A → World → ℕ → List BodyValue → List Slot → List Listed → Type 0
+AreReady false v w me bodies slots pairs = AreRoots pairs
+AreReady true v w me bodies slots pairs = All (Waits v w me bodies slots) (pairs_in w pairs)

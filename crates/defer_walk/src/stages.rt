@@ -9,7 +9,7 @@ ghost use Rattle.defer_walk.specs.Settling.{IsOpened, Wakes};
 ghost use Rattle.defer_walk.specs.Tallies.{Notes};
 ghost use Rattle.defer_walk.specs.Asked.{Extends};
 ghost use Rattle.defer_walk.specs.Standing.{meaning, AreStored, AreRoots, Waits, pair_in, pairs_in, roots};
-ghost use Rattle.defer_walk.specs.Turning.{Beginning, Runs};
+ghost use Rattle.defer_walk.specs.Turning.{Beginning, Runs, AreReady};
 
 use crate::answers::{near_all, push_all};
 use crate::asks::Asks;
@@ -108,6 +108,37 @@ pub fn resume<V: Visit, C: Cells>(
         }
     }
     Ok(())
+}
+
+/// An advance: the first one from the root, later ones from the pairs that wait.
+pub fn go_on<V: Visit, C: Cells>(
+    alloc: Global,
+    advanced: bool,
+    visit: &V,
+    cells: &C,
+    piece: &[Body],
+    accs: &mut [V::Acc],
+    tally: &mut Tally,
+    asks: &mut Asks,
+    pairs: &mut Vec<Listed>,
+    waiting: &mut Vec<Listed>,
+) -> Result<(), AllocError>
+    requires fits { (w : World) × (me : ℕ) × (start : Beginning) × C.stands cells.now w me × IsGood w × (piece.now ≡ piece_of w me) × Runs (meaning V.zero_of V.adds V.opens_by V.Acc.seen_of visit.now) w me start piece.now accs.old tally.old asks.old (pairs_in w pairs.old.items) [] (pairs_in w waiting.old.items) × (start.advanced ≡ advanced) × (start.pairs ≡ pairs.old.items) × AreReady advanced (meaning V.zero_of V.adds V.opens_by V.Acc.seen_of visit.now) w me piece.now start.slots pairs.old.items }
+    ensures stored { (w : World) (me : ℕ) (start : Beginning) → C.stands cells.now w me → IsGood w → piece.now ≡ piece_of w me → start.advanced ≡ advanced → start.pairs ≡ pairs.old.items → AreReady advanced (meaning V.zero_of V.adds V.opens_by V.Acc.seen_of visit.now) w me piece.now start.slots pairs.old.items → Runs (meaning V.zero_of V.adds V.opens_by V.Acc.seen_of visit.now) w me start piece.now accs.old tally.old asks.old (pairs_in w pairs.old.items) [] (pairs_in w waiting.old.items) → AreStored (meaning V.zero_of V.adds V.opens_by V.Acc.seen_of visit.now) w me asks.new }
+    ensures extends { Extends asks.old asks.new }
+    ensures runs { OnOk result ((w : World) (me : ℕ) (start : Beginning) → C.stands cells.now w me → IsGood w → piece.now ≡ piece_of w me → start.advanced ≡ advanced → start.pairs ≡ pairs.old.items → AreReady advanced (meaning V.zero_of V.adds V.opens_by V.Acc.seen_of visit.now) w me piece.now start.slots pairs.old.items → Runs (meaning V.zero_of V.adds V.opens_by V.Acc.seen_of visit.now) w me start piece.now accs.old tally.old asks.old (pairs_in w pairs.old.items) [] (pairs_in w waiting.old.items) → Runs (meaning V.zero_of V.adds V.opens_by V.Acc.seen_of visit.now) w me start piece.now accs.new tally.new asks.new [] [] (pairs_in w waiting.new.items)) }
+{
+    if advanced {
+        return resume(
+            alloc, visit, cells, piece, accs, tally, asks, pairs, waiting,
+        );
+    }
+    match cells.root() {
+        None => Ok(()),
+        Some(root) => begin(
+            alloc, visit, cells, root, piece, accs, tally, asks, pairs, waiting,
+        ),
+    }
 }
 
 /// As many empty accumulators.

@@ -16,8 +16,7 @@ pub work_off-requires-clause-fits : goal.work_off-requires-clause-fits
 work_off-requires-clause-fits g c = λ κs l.
     let q = c.requires.fits in
     let v : VisitOf g.row.V-Acc.Denot = meaning g.V.Visit.zero_of g.V.Visit.adds g.V.Visit.opens_by g.V.Acc.Seen.seen_of c.args.visit.now in
-    let inv = c.loop-listed.invariant in
-    (
+    let inv = c.loop-listed.invariant in (
       q.0,
       q.1,
       q.2,
@@ -26,7 +25,7 @@ work_off-requires-clause-fits g c = λ κs l.
       q.4,
       q.5,
       begun v q.0 q.1 q.2 c.args.piece.now c.loop-listed.accs c.loop-listed.tally c.loop-listed.asks c.loop-listed.pairs.items c.pop.new.self.items c.in-Some.listed c.args.root c.loop-listed.work.items c.push.new.self.items (pairs_in q.0 c.loop-listed.waiting.items) c.pair_of.result
-      q.7 (inv.roots q.8) c.in-Some.ensures.items q.9 inv.empty c.in_ok-push.ensures.items c.pair_of.ensures (inv.runs q.0 q.1 q.2 q.3 q.4 q.5 q.7 q.8 q.9 q.6),
+          q.7 (inv.roots q.8) c.in-Some.ensures.items q.9 inv.empty c.in_ok-push.ensures.items c.pair_of.ensures (inv.runs q.0 q.1 q.2 q.3 q.4 q.5 q.7 q.8 q.9 q.6),
     )
 
 pub loop-listed-preserved : goal.loop-listed-preserved

@@ -15,7 +15,7 @@ use Rattle.defer_walk.proofs.Advances.{more_left, left_pair, left_body, left_awa
 use Rattle.defer_walk.proofs.stages.resume.Goals as goal
 
 pub loop-listed-preserved-in-Continue-1 : goal.loop-listed-preserved-in-Continue-1
-loop-listed-preserved-in-Continue-1 g c = 
+loop-listed-preserved-in-Continue-1 g c =
     let laws = g.met.V.Visit g.world.𝓛 g.world.𝓜 g.world.𝓡 ((λ s x. x), (λ x. x), (λ x. x), λ x. x) in
     let v : VisitOf g.row.V-Acc.Denot = meaning g.V.Visit.zero_of g.V.Visit.adds g.V.Visit.opens_by g.V.Acc.Seen.seen_of c.args.visit.now in
     let inv = c.loop-listed.invariant in
@@ -33,7 +33,7 @@ returns-in_err-push-in-None-clause-stored g c = λ w me start stands good own la
     (c.loop-listed.invariant.runs w me start stands good own late same waited r).keeps.store
 
 pub bounds-piece-at : goal.bounds-piece-at
-bounds-piece-at g c = 
+bounds-piece-at g c =
     let v : VisitOf g.row.V-Acc.Denot = meaning g.V.Visit.zero_of g.V.Visit.adds g.V.Visit.opens_by g.V.Acc.Seen.seen_of c.args.visit.now in
     let inv = c.loop-listed.invariant in
     let q = c.requires.fits in
@@ -42,7 +42,7 @@ bounds-piece-at g c =
     within
 
 pub offset_bounds-accs-at : goal.offset_bounds-accs-at
-offset_bounds-accs-at g c = 
+offset_bounds-accs-at g c =
     let v : VisitOf g.row.V-Acc.Denot = meaning g.V.Visit.zero_of g.V.Visit.adds g.V.Visit.opens_by g.V.Acc.Seen.seen_of c.args.visit.now in
     let inv = c.loop-listed.invariant in
     let q = c.requires.fits in
@@ -52,7 +52,7 @@ offset_bounds-accs-at g c =
     search rules
 
 pub bounds-accs-at : goal.bounds-accs-at
-bounds-accs-at g c = 
+bounds-accs-at g c =
     let v : VisitOf g.row.V-Acc.Denot = meaning g.V.Visit.zero_of g.V.Visit.adds g.V.Visit.opens_by g.V.Acc.Seen.seen_of c.args.visit.now in
     let inv = c.loop-listed.invariant in
     let q = c.requires.fits in
@@ -96,16 +96,23 @@ work_off-requires-clause-fits g c = λ κs l.
     let got : stored_at c.loop-listed.asks c.in-Some.listed.key ≡ Some c.in-Some-answer.answer.now = sym c.answer.ensures.value ∙ ap option_copied c.in-Some-answer.is in
     let i = c.in-Some.listed.body in
     let pb : slice_get c.args.piece.now i ≡ Some c.index-piece-at.result = got_at c.args.piece.now i c.index-piece-at.result within c.index-piece-at.is in
-    let pa : slice_get c.loop-listed.accs i ≡ Some (get_or c.loop-listed.accs i c.index-accs-at.result) = slice_get-get_or c.loop-listed.accs i c.index-accs-at.result (subst (λ (n : ℕ). i < n) long within) in
-    (q.0, q.1, q.2, pairs_in q.0 c.pop.new.self.items, q.3, q.4, q.5,
-    left_wakes v q.0 q.1 q.2 c.args.piece.now c.loop-listed.accs c.loop-listed.tally c.loop-listed.asks c.args.pairs.now.items c.loop-listed.pairs.items c.pop.new.self.items inv.prefix.0 c.in-Some.listed (pairs_in q.0 c.loop-listed.waiting.items) q.7 q.8 q.9 inv.prefix.1 c.in-Some.ensures.items (inv.runs q.0 q.1 q.2 q.3 q.4 q.5 q.7 q.8 q.9 q.6)
-    (λ b. record { swaps = λ a s t. laws.swaps c.args.visit.now b a s t }) c.in-Some-answer.answer.now got c.wake.new.tally c.wake.new.work.items c.index-piece-at.result (get_or c.loop-listed.accs i c.index-accs-at.result) c.wake.new.acc pb pa
-    (subst (λ (ws : List PairValue). Wakes (g.V.Visit.adds c.args.visit.now c.index-piece-at.result) (g.V.Visit.opens_by c.args.visit.now c.index-piece-at.result) q.0 q.1 (pair_in q.0 c.in-Some.listed) (get_or c.loop-listed.accs i c.index-accs-at.result) c.wake.new.acc ws c.wake.new.work.items) inv.empty
-    (c.in_ok-wake-in-Some-answer.ensures.settled q.0 q.1 (left_pair v q.0 q.1 q.2 c.args.piece.now c.loop-listed.accs c.loop-listed.tally c.loop-listed.asks c.args.pairs.now.items c.loop-listed.pairs.items c.pop.new.self.items inv.prefix.0 c.in-Some.listed (pairs_in q.0 c.loop-listed.waiting.items) q.7 q.8 q.9 inv.prefix.1 c.in-Some.ensures.items (inv.runs q.0 q.1 q.2 q.3 q.4 q.5 q.7 q.8 q.9 q.6)) (left_opened v q.0 q.1 q.2 c.args.piece.now c.loop-listed.accs c.loop-listed.tally c.loop-listed.asks c.args.pairs.now.items c.loop-listed.pairs.items c.pop.new.self.items inv.prefix.0 c.in-Some.listed (pairs_in q.0 c.loop-listed.waiting.items) q.7 q.8 q.9 inv.prefix.1 c.in-Some.ensures.items (inv.runs q.0 q.1 q.2 q.3 q.4 q.5 q.7 q.8 q.9 q.6) c.index-piece-at.result pb) (left_away v q.0 q.1 q.2 c.args.piece.now c.loop-listed.accs c.loop-listed.tally c.loop-listed.asks c.args.pairs.now.items c.loop-listed.pairs.items c.pop.new.self.items inv.prefix.0 c.in-Some.listed (pairs_in q.0 c.loop-listed.waiting.items) q.7 q.8 q.9 inv.prefix.1 c.in-Some.ensures.items (inv.runs q.0 q.1 q.2 q.3 q.4 q.5 q.7 q.8 q.9 q.6)) (left_true v q.0 q.1 q.2 c.args.piece.now c.loop-listed.accs c.loop-listed.tally c.loop-listed.asks c.args.pairs.now.items c.loop-listed.pairs.items c.pop.new.self.items inv.prefix.0 c.in-Some.listed (pairs_in q.0 c.loop-listed.waiting.items) q.7 q.8 q.9 inv.prefix.1 c.in-Some.ensures.items (inv.runs q.0 q.1 q.2 q.3 q.4 q.5 q.7 q.8 q.9 q.6) c.in-Some-answer.answer.now got)))
-    c.in_ok-wake-in-Some-answer.ensures.noted)
+    let pa : slice_get c.loop-listed.accs i ≡ Some (get_or c.loop-listed.accs i c.index-accs-at.result) = slice_get-get_or c.loop-listed.accs i c.index-accs-at.result (subst (λ (n : ℕ). i < n) long within) in (
+      q.0,
+      q.1,
+      q.2,
+      pairs_in q.0 c.pop.new.self.items,
+      q.3,
+      q.4,
+      q.5,
+      left_wakes v q.0 q.1 q.2 c.args.piece.now c.loop-listed.accs c.loop-listed.tally c.loop-listed.asks c.args.pairs.now.items c.loop-listed.pairs.items c.pop.new.self.items inv.prefix.0 c.in-Some.listed (pairs_in q.0 c.loop-listed.waiting.items) q.7 q.8 q.9 inv.prefix.1 c.in-Some.ensures.items (inv.runs q.0 q.1 q.2 q.3 q.4 q.5 q.7 q.8 q.9 q.6)
+          (λ b. record { swaps = λ a s t. laws.swaps c.args.visit.now b a s t }) c.in-Some-answer.answer.now got c.wake.new.tally c.wake.new.work.items c.index-piece-at.result (get_or c.loop-listed.accs i c.index-accs-at.result) c.wake.new.acc pb pa
+          (subst (λ (ws : List PairValue). Wakes (g.V.Visit.adds c.args.visit.now c.index-piece-at.result) (g.V.Visit.opens_by c.args.visit.now c.index-piece-at.result) q.0 q.1 (pair_in q.0 c.in-Some.listed) (get_or c.loop-listed.accs i c.index-accs-at.result) c.wake.new.acc ws c.wake.new.work.items) inv.empty
+          (c.in_ok-wake-in-Some-answer.ensures.settled q.0 q.1 (left_pair v q.0 q.1 q.2 c.args.piece.now c.loop-listed.accs c.loop-listed.tally c.loop-listed.asks c.args.pairs.now.items c.loop-listed.pairs.items c.pop.new.self.items inv.prefix.0 c.in-Some.listed (pairs_in q.0 c.loop-listed.waiting.items) q.7 q.8 q.9 inv.prefix.1 c.in-Some.ensures.items (inv.runs q.0 q.1 q.2 q.3 q.4 q.5 q.7 q.8 q.9 q.6)) (left_opened v q.0 q.1 q.2 c.args.piece.now c.loop-listed.accs c.loop-listed.tally c.loop-listed.asks c.args.pairs.now.items c.loop-listed.pairs.items c.pop.new.self.items inv.prefix.0 c.in-Some.listed (pairs_in q.0 c.loop-listed.waiting.items) q.7 q.8 q.9 inv.prefix.1 c.in-Some.ensures.items (inv.runs q.0 q.1 q.2 q.3 q.4 q.5 q.7 q.8 q.9 q.6) c.index-piece-at.result pb) (left_away v q.0 q.1 q.2 c.args.piece.now c.loop-listed.accs c.loop-listed.tally c.loop-listed.asks c.args.pairs.now.items c.loop-listed.pairs.items c.pop.new.self.items inv.prefix.0 c.in-Some.listed (pairs_in q.0 c.loop-listed.waiting.items) q.7 q.8 q.9 inv.prefix.1 c.in-Some.ensures.items (inv.runs q.0 q.1 q.2 q.3 q.4 q.5 q.7 q.8 q.9 q.6)) (left_true v q.0 q.1 q.2 c.args.piece.now c.loop-listed.accs c.loop-listed.tally c.loop-listed.asks c.args.pairs.now.items c.loop-listed.pairs.items c.pop.new.self.items inv.prefix.0 c.in-Some.listed (pairs_in q.0 c.loop-listed.waiting.items) q.7 q.8 q.9 inv.prefix.1 c.in-Some.ensures.items (inv.runs q.0 q.1 q.2 q.3 q.4 q.5 q.7 q.8 q.9 q.6) c.in-Some-answer.answer.now got)))
+          c.in_ok-wake-in-Some-answer.ensures.noted,
+    )
 
 pub loop-listed-preserved : goal.loop-listed-preserved
-loop-listed-preserved g c = 
+loop-listed-preserved g c =
     let laws = g.met.V.Visit g.world.𝓛 g.world.𝓜 g.world.𝓡 ((λ s x. x), (λ x. x), (λ x. x), λ x. x) in
     let v : VisitOf g.row.V-Acc.Denot = meaning g.V.Visit.zero_of g.V.Visit.adds g.V.Visit.opens_by g.V.Acc.Seen.seen_of c.args.visit.now in
     let inv = c.loop-listed.invariant in
@@ -119,11 +126,11 @@ loop-listed-preserved g c =
     record {
       runs = λ w me start stands good own late same waited r.
           c.in_ok-work_off-in-Some-answer.ensures.runs w me start (pairs_in w c.pop.new.self.items) stands good own
-    (left_wakes v w me start c.args.piece.now c.loop-listed.accs c.loop-listed.tally c.loop-listed.asks c.args.pairs.now.items c.loop-listed.pairs.items c.pop.new.self.items inv.prefix.0 c.in-Some.listed (pairs_in w c.loop-listed.waiting.items) late same waited inv.prefix.1 c.in-Some.ensures.items (inv.runs w me start stands good own late same waited r)
-    (λ b. record { swaps = λ a s t. laws.swaps c.args.visit.now b a s t }) c.in-Some-answer.answer.now got c.wake.new.tally c.wake.new.work.items c.index-piece-at.result (get_or c.loop-listed.accs i c.index-accs-at.result) c.wake.new.acc pb pa
-    (subst (λ (ws : List PairValue). Wakes (g.V.Visit.adds c.args.visit.now c.index-piece-at.result) (g.V.Visit.opens_by c.args.visit.now c.index-piece-at.result) w me (pair_in w c.in-Some.listed) (get_or c.loop-listed.accs i c.index-accs-at.result) c.wake.new.acc ws c.wake.new.work.items) inv.empty
-    (c.in_ok-wake-in-Some-answer.ensures.settled w me (left_pair v w me start c.args.piece.now c.loop-listed.accs c.loop-listed.tally c.loop-listed.asks c.args.pairs.now.items c.loop-listed.pairs.items c.pop.new.self.items inv.prefix.0 c.in-Some.listed (pairs_in w c.loop-listed.waiting.items) late same waited inv.prefix.1 c.in-Some.ensures.items (inv.runs w me start stands good own late same waited r)) (left_opened v w me start c.args.piece.now c.loop-listed.accs c.loop-listed.tally c.loop-listed.asks c.args.pairs.now.items c.loop-listed.pairs.items c.pop.new.self.items inv.prefix.0 c.in-Some.listed (pairs_in w c.loop-listed.waiting.items) late same waited inv.prefix.1 c.in-Some.ensures.items (inv.runs w me start stands good own late same waited r) c.index-piece-at.result pb) (left_away v w me start c.args.piece.now c.loop-listed.accs c.loop-listed.tally c.loop-listed.asks c.args.pairs.now.items c.loop-listed.pairs.items c.pop.new.self.items inv.prefix.0 c.in-Some.listed (pairs_in w c.loop-listed.waiting.items) late same waited inv.prefix.1 c.in-Some.ensures.items (inv.runs w me start stands good own late same waited r)) (left_true v w me start c.args.piece.now c.loop-listed.accs c.loop-listed.tally c.loop-listed.asks c.args.pairs.now.items c.loop-listed.pairs.items c.pop.new.self.items inv.prefix.0 c.in-Some.listed (pairs_in w c.loop-listed.waiting.items) late same waited inv.prefix.1 c.in-Some.ensures.items (inv.runs w me start stands good own late same waited r) c.in-Some-answer.answer.now got)))
-    c.in_ok-wake-in-Some-answer.ensures.noted);
+          (left_wakes v w me start c.args.piece.now c.loop-listed.accs c.loop-listed.tally c.loop-listed.asks c.args.pairs.now.items c.loop-listed.pairs.items c.pop.new.self.items inv.prefix.0 c.in-Some.listed (pairs_in w c.loop-listed.waiting.items) late same waited inv.prefix.1 c.in-Some.ensures.items (inv.runs w me start stands good own late same waited r)
+          (λ b. record { swaps = λ a s t. laws.swaps c.args.visit.now b a s t }) c.in-Some-answer.answer.now got c.wake.new.tally c.wake.new.work.items c.index-piece-at.result (get_or c.loop-listed.accs i c.index-accs-at.result) c.wake.new.acc pb pa
+          (subst (λ (ws : List PairValue). Wakes (g.V.Visit.adds c.args.visit.now c.index-piece-at.result) (g.V.Visit.opens_by c.args.visit.now c.index-piece-at.result) w me (pair_in w c.in-Some.listed) (get_or c.loop-listed.accs i c.index-accs-at.result) c.wake.new.acc ws c.wake.new.work.items) inv.empty
+          (c.in_ok-wake-in-Some-answer.ensures.settled w me (left_pair v w me start c.args.piece.now c.loop-listed.accs c.loop-listed.tally c.loop-listed.asks c.args.pairs.now.items c.loop-listed.pairs.items c.pop.new.self.items inv.prefix.0 c.in-Some.listed (pairs_in w c.loop-listed.waiting.items) late same waited inv.prefix.1 c.in-Some.ensures.items (inv.runs w me start stands good own late same waited r)) (left_opened v w me start c.args.piece.now c.loop-listed.accs c.loop-listed.tally c.loop-listed.asks c.args.pairs.now.items c.loop-listed.pairs.items c.pop.new.self.items inv.prefix.0 c.in-Some.listed (pairs_in w c.loop-listed.waiting.items) late same waited inv.prefix.1 c.in-Some.ensures.items (inv.runs w me start stands good own late same waited r) c.index-piece-at.result pb) (left_away v w me start c.args.piece.now c.loop-listed.accs c.loop-listed.tally c.loop-listed.asks c.args.pairs.now.items c.loop-listed.pairs.items c.pop.new.self.items inv.prefix.0 c.in-Some.listed (pairs_in w c.loop-listed.waiting.items) late same waited inv.prefix.1 c.in-Some.ensures.items (inv.runs w me start stands good own late same waited r)) (left_true v w me start c.args.piece.now c.loop-listed.accs c.loop-listed.tally c.loop-listed.asks c.args.pairs.now.items c.loop-listed.pairs.items c.pop.new.self.items inv.prefix.0 c.in-Some.listed (pairs_in w c.loop-listed.waiting.items) late same waited inv.prefix.1 c.in-Some.ensures.items (inv.runs w me start stands good own late same waited r) c.in-Some-answer.answer.now got)))
+          c.in_ok-wake-in-Some-answer.ensures.noted);
       prefix = (c.in-Some.listed ∷ inv.prefix.0, more_left c.args.pairs.now.items c.loop-listed.pairs.items c.pop.new.self.items inv.prefix.0 c.in-Some.listed inv.prefix.1 c.in-Some.ensures.items);
       empty = c.in_ok-work_off-in-Some-answer.ensures.empty;
       extends = extends_trans c.args.asks.now c.loop-listed.asks c.work_off.new.asks inv.extends c.in_ok-work_off-in-Some-answer.ensures.extends;
@@ -161,4 +168,3 @@ returns-clause-runs g c = λ w me start stands good own late same waited r.
     let inv = c.loop-listed.invariant in
     let e : c.loop-listed.pairs.items ≡ [] = search rules in
     subst (λ (ls : List Listed). Runs v w me start c.args.piece.now c.loop-listed.accs c.loop-listed.tally c.loop-listed.asks (pairs_in w ls) [] (pairs_in w c.loop-listed.waiting.items)) e (inv.runs w me start stands good own late same waited r)
-

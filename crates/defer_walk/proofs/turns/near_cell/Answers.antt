@@ -10,7 +10,7 @@ near-requires g c =
     let r = c.requires.fits in
     record {
       room = near_fits (bodies_in r.0 c.args.key) c.loop-i.i c.in-Some.other (g.V.Acc.Seen.seen_of c.loop-i.acc) _ (sym (c.body.ensures.value r.0 r.1 r.2 r.4) ∙ c.in-Some.is)
-    (c.loop-i.invariant.room r.0 r.1 r.2 r.4 r.5);
+          (c.loop-i.invariant.room r.0 r.1 r.2 r.4 r.5);
     }
 
 pub loop-i-preserved : goal.loop-i-preserved

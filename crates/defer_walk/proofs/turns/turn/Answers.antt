@@ -24,8 +24,7 @@ settle-requires-clause-fits g c = λ κs l.
     let ib = c.body_of-body.ensures in
     let waiting = pairs_in r.0 c.args.waiting.now.items in
     let pb : slice_get c.args.piece.now c.args.pair.body ≡ Some c.index-piece-at.result = ap (slice_get c.args.piece.now) (sym ib) ∙ got c.args.piece.now i c.index-piece-at.result (subst (λ (k : ℕ). k < length c.args.piece.now) (sym ib) c.requires.body) c.index-piece-at.is in
-    let pa : slice_get c.args.accs.now c.args.pair.body ≡ Some (get_or c.args.accs.now i c.index-accs-at.result) = ap (slice_get c.args.accs.now) (sym ib) ∙ slice_get-get_or c.args.accs.now i c.index-accs-at.result (subst (λ (k : ℕ). i < k) (sym c.requires.long) (subst (λ (k : ℕ). k < length c.args.piece.now) (sym ib) c.requires.body)) in
-    (
+    let pa : slice_get c.args.accs.now c.args.pair.body ≡ Some (get_or c.args.accs.now i c.index-accs-at.result) = ap (slice_get c.args.accs.now) (sym ib) ∙ slice_get-get_or c.args.accs.now i c.index-accs-at.result (subst (λ (k : ℕ). i < k) (sym c.requires.long) (subst (λ (k : ℕ). k < length c.args.piece.now) (sym ib) c.requires.body)) in (
       r.0,
       r.1,
       r.4,

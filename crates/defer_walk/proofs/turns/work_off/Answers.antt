@@ -10,8 +10,7 @@ use Rattle.defer_walk.proofs.turns.work_off.Goals as goal
 pub turn-requires-clause-fits : goal.turn-requires-clause-fits
 turn-requires-clause-fits g c = λ κs l.
     let r = c.requires.fits in
-    let v : VisitOf g.row.V-Acc.Denot = meaning g.V.Visit.zero_of g.V.Visit.adds g.V.Visit.opens_by g.V.Acc.Seen.seen_of c.args.visit.now in
-    (
+    let v : VisitOf g.row.V-Acc.Denot = meaning g.V.Visit.zero_of g.V.Visit.adds g.V.Visit.opens_by g.V.Acc.Seen.seen_of c.args.visit.now in (
       r.0,
       r.1,
       r.2,
