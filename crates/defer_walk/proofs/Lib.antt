@@ -6,3 +6,4 @@ pub mod Keeping
 pub mod Openings
 pub mod Turnings
 pub mod Advances
+pub mod Walking

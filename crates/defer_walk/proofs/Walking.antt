@@ -1,0 +1,147 @@
+-- A walk before and after an advance.
+use Rattle.std.proofs.Common.{ℕ, zero, suc, ◌≡◌, ◌+◌, ◌-◌, ◌<◌, ◌≤◌, Bool, true, false, List, [], ◌∷◌, ◌++◌, length, map, drop, sym, refl, ap, ◌∙◌, subst, inl, inr, arith, Option, Some, None}
+use Rattle.std.specs.Prelude.{All, Contains, ◌⊎◌, IsSome, slice_get}
+use Rattle.std.proofs.lemmas.List.{append-nil}
+use Rattle.std.proofs.lemmas.List.Elements.{All-nil}
+use Rattle.hot_model.specs.Values.{BodyValue}
+use Rattle.hot_model.specs.Keys.{IsCell, HasLevel}
+use Rattle.hot_model.specs.World.{World, piece, bodies_in}
+use Rattle.hot_model.specs.Branches.{IsBranch, IsTop, parent}
+use Rattle.hot_model.specs.Needs.{is_away}
+use Rattle.hot_model.specs.Pairs.{PairValue, IsPair}
+use Rattle.hot_model.proofs.Digits.{cell-pos}
+use Rattle.hot_model.proofs.Owners.{above_branch}
+use Rattle.hot_model.proofs.Asks.{top_not_away}
+use Rattle.hot_model.proofs.Fronts.{level_zero}
+use Rattle.hot_model.proofs.Members.{map_has, all_members}
+use Rattle.defer_walk.specs.declared.asks.Slot.{Slot}
+use Rattle.defer_walk.specs.declared.listed.Listed.{Listed}
+use Rattle.defer_walk.specs.Asked.{asked_keys, stored_at, Extends}
+use Rattle.defer_walk.specs.Tallies.{TallyValue}
+use Rattle.defer_walk.specs.Standing.{VisitOf, WalkState, Stands, IsAsk, AreStored, IsBalanced, IsCounted, Waits, NoneBelow, AreRoots, IsNewAsk, pair_in, pairs_in}
+use Rattle.defer_walk.specs.Turning.{Beginning, ComesFrom, IsClear, Asks, Keeps, Runs, AreReady}
+use Rattle.defer_walk.proofs.Settles.{pair_full}
+use Rattle.defer_walk.proofs.Turnings.{All-has, away_test}
+
+-- an advance of a walk as it begins
+abbrev pub beginning : {V A : Type 0} → WalkState V A → Beginning
+beginning s = record { advanced = s.advanced; slots = s.slots; pairs = s.pairs }
+
+true_false : true ≡ false → {A : Type 0} → A
+true_false e = absurd (let h : true ≡ false = e in cc)
+
+module _ {V A : Type 0} (v : VisitOf A) (w : World) (s : WalkState V A) (h : Stands v w s) (started : s.started ≡ true) (fed : s.starved ≡ false) where
+  pub ready : AreReady s.advanced v w s.me s.piece s.slots s.pairs
+  ready = by_stage s.advanced refl
+    where
+      by_stage : (t : Bool) → s.advanced ≡ t → AreReady t v w s.me s.piece s.slots s.pairs
+      by_stage true e = (h.waits started fed e).0
+      by_stage false e = (h.begun started fed e).0
+
+  clear : IsClear s.advanced s.slots s.pairs
+  clear = by_stage s.advanced refl
+    where
+      by_stage : (t : Bool) → s.advanced ≡ t → IsClear t s.slots s.pairs
+      by_stage true e = (h.waits started fed e).1
+      by_stage false e = (h.begun started fed e).1
+
+  pub runs_begin : Runs v w s.me (beginning s) s.piece s.accs s.tally s.slots (pairs_in w s.pairs) [] []
+  runs_begin = record {
+    keeps = subst (Keeps v w s.me s.piece s.accs s.tally s.slots) (sym (append-nil (pairs_in w s.pairs))) (record { store = h.store; balance = h.balance started fed; count = h.count started fed });
+    asks = record { more = []; slots_are = sym (append-nil s.slots); unanswered = All-nil (λ (x : Slot). x.answer ≡ None); each = All-nil (IsNewAsk s.advanced w s.slots s.pairs) };
+    clear = clear;
+    comes = All-nil (ComesFrom s.advanced w s.me (beginning s));
+    waits = All-nil (Waits v w s.me s.piece s.slots);
+    absent = All-nil (λ (p : PairValue). stored_at s.slots p.rec.key ≡ None);
+  }
+
+-- the same under the names of the code
+pub runs_as : {A : Type 0} (v : VisitOf A) (w : World) (me : ℕ) (start : Beginning) (bodies bodies' : List BodyValue) (accs accs' : List A) (tally : TallyValue) (slots : List Slot) (rest : List PairValue) (ls : List Listed)
+    → bodies' ≡ bodies → accs' ≡ accs → ls ≡ [] → Runs v w me start bodies accs tally slots rest [] [] → Runs v w me start bodies' accs' tally slots rest [] (pairs_in w ls)
+runs_as v w me start bodies bodies' accs accs' tally slots rest ls b a e r = rw (b, a, e) r
+
+pub runs_back : {A : Type 0} (v : VisitOf A) (w : World) (me : ℕ) (start : Beginning) (bodies bodies' : List BodyValue) (accs' accs : List A) (tally : TallyValue) (slots : List Slot) (ls : List Listed)
+    → bodies' ≡ bodies → accs ≡ accs' → Runs v w me start bodies' accs' tally slots [] [] (pairs_in w ls) → Runs v w me start bodies accs tally slots [] [] (pairs_in w ls)
+runs_back v w me start bodies bodies' accs' accs tally slots ls b a r = rw a (subst (λ (xs : List BodyValue). Runs v w me start xs accs' tally slots [] [] (pairs_in w ls)) b r)
+
+-- the parent of a branch is no cell of another rank
+branch_above : (w : World) (me q k : ℕ) → IsBranch w q k → IsCell (parent k) → is_away w me (parent k) ≡ true → ⊥
+branch_above w me q k b i a = by_level b.cell.0 b.cell.1 b.cell.2
+  where
+    by_level : (l : ℕ) → l ≤ 21 → HasLevel k l → ⊥
+    by_level zero low p =
+        let e = level_zero k p in
+        let z : parent k ≡ 0 = ap parent e in
+        absurd (omega (arith, z, cell-pos (parent k) i))
+    by_level (suc l) low p = true_false (sym a ∙ top_not_away w me (parent k) (above_branch w q k l low p b))
+
+module _ {A : Type 0} (v : VisitOf A) (w : World) (me : ℕ) (start : Beginning) (bodies : List BodyValue) (accs : List A) (tally : TallyValue) (slots : List Slot) (ls : List Listed) (r : Runs v w me start bodies accs tally slots [] [] (pairs_in w ls)) where
+  pub end_keeps : Keeps v w me bodies accs tally slots (pairs_in w ls)
+  end_keeps = subst (Keeps v w me bodies accs tally slots) (append-nil (pairs_in w ls)) r.keeps
+
+  pub none_below : NoneBelow slots ls
+  none_below = all_members (λ (s : Slot). All (λ (l : Listed). parent s.key ≡ l.key → ⊥) ls) slots (λ s m. all_members (λ (l : Listed). parent s.key ≡ l.key → ⊥) ls (λ l n. differ s l (All-has (IsAsk v w me slots) slots s r.keeps.store.asks m) (map_has (pair_in w) ls l n)))
+    where
+      differ : (s : Slot) (l : Listed) → IsAsk v w me slots s → Contains (pairs_in w ls) (pair_in w l) → parent s.key ≡ l.key → ⊥
+      differ s l a m e =
+          let p = All-has (IsPair w) (pairs_in w ls) (pair_in w l) end_keeps.balance.cells m in
+          let h = All-has (Waits v w me bodies slots) (pairs_in w ls) (pair_in w l) r.waits m in
+          let none = All-has (λ (q : PairValue). stored_at slots q.rec.key ≡ None) (pairs_in w ls) (pair_in w l) r.absent m in
+          let y : is_away w me l.key ≡ true = away_test w me h.away.0 l.key p.cell (pair_full w (pair_in w l) p).0 h.away.1 in
+          elim a.chained [
+            | inl b ↦ branch_above w me s.owner s.key b (subst IsCell (sym e) p.cell) (subst (λ (k : ℕ). is_away w me k ≡ true) (sym e) y)
+            | inr f ↦ none_some (stored_at slots l.key) none (subst (λ (k : ℕ). IsSome (stored_at slots k)) e f)
+          ]
+        where
+          none_some : {X : Type 0} (o : Option X) → o ≡ None → IsSome o → ⊥
+          none_some None e f = absurd (let g : false ≡ true = f in cc)
+          none_some (Some x) e f = absurd (cc)
+
+  pub end_extends : Extends start.slots slots
+  end_extends = record { more = r.asks.more; new_is = r.asks.slots_are; unanswered = r.asks.unanswered }
+
+  pub end_newly : All (IsNewAsk start.advanced w start.slots start.pairs) (drop (length start.slots) slots)
+  end_newly = subst (λ (ss : List Slot). All (IsNewAsk start.advanced w start.slots start.pairs) (drop (length start.slots) ss)) (sym r.asks.slots_are)
+      (subst (All (IsNewAsk start.advanced w start.slots start.pairs)) (sym (drop_front start.slots r.asks.more)) r.asks.each)
+    where
+      drop_front : {X : Type 0} (xs ys : List X) → drop (length xs) (xs ++ ys) ≡ ys
+      drop_front [] ys = refl
+      drop_front (x ∷ xs) ys = drop_front xs ys
+
+  pub end_waits : All (λ p. Waits v w me bodies slots p × (stored_at slots p.rec.key ≡ None)) (pairs_in w ls)
+  end_waits = λ k d h. (r.waits k d h, r.absent k d h)
+
+module _ {V A : Type 0} (v : VisitOf A) (w : World) (s : WalkState V A) (h : Stands v w s) where
+  -- the walk goes on
+  pub stands_on : s.started ≡ true → (accs : List A) (tally : TallyValue) (slots : List Slot) (ls : List Listed) → Runs v w s.me (beginning s) s.piece accs tally slots [] [] (pairs_in w ls)
+      → Stands v w (record s { accs = accs; tally = tally; slots = slots; pairs = ls; advanced = true })
+  stands_on started accs tally slots ls r =
+      let k = end_keeps v w s.me (beginning s) s.piece accs tally slots ls r in
+      record {
+        good = h.good;
+        bodies = h.bodies;
+        long = k.balance.long;
+        none = h.none;
+        store = k.store;
+        fresh = λ a b. true_false (sym started ∙ a);
+        balance = λ a b. k.balance;
+        count = λ a b. k.count;
+        begun = λ a b c. true_false c;
+        waits = λ a b c. (r.waits, none_below v w s.me (beginning s) s.piece accs tally slots ls r);
+      }
+
+  -- or is starved
+  pub stands_starved : (accs : List A) (tally : TallyValue) (slots : List Slot) (ls : List Listed) → length accs ≡ length s.piece → AreStored v w s.me slots
+      → Stands v w (record s { accs = accs; tally = tally; slots = slots; pairs = ls; starved = true })
+  stands_starved accs tally slots ls long store = record {
+    good = h.good;
+    bodies = h.bodies;
+    long = long;
+    none = h.none;
+    store = store;
+    fresh = λ a b. true_false b;
+    balance = λ a b. true_false b;
+    count = λ a b. true_false b;
+    begun = λ a b c. true_false b;
+    waits = λ a b c. true_false b;
+  }
