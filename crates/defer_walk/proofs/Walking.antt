@@ -1,6 +1,6 @@
 -- A walk before and after an advance.
 use Rattle.std.proofs.Common.{ℕ, zero, suc, ◌≡◌, ◌+◌, ◌-◌, ◌<◌, ◌≤◌, Bool, true, false, List, [], ◌∷◌, ◌++◌, length, map, drop, sym, refl, ap, ◌∙◌, subst, inl, inr, arith, Option, Some, None}
-use Rattle.std.specs.Prelude.{All, Contains, ◌⊎◌, IsSome, slice_get}
+use Rattle.std.specs.Prelude.{Result, Ok, Err, OnOk, All, Contains, ◌⊎◌, IsSome, slice_get}
 use Rattle.std.proofs.lemmas.List.{append-nil}
 use Rattle.std.proofs.lemmas.List.Elements.{All-nil}
 use Rattle.hot_model.specs.Values.{BodyValue}
@@ -145,3 +145,8 @@ module _ {V A : Type 0} (v : VisitOf A) (w : World) (s : WalkState V A) (h : Sta
     begun = λ a b c. true_false b;
     waits = λ a b c. true_false b;
   }
+
+-- what holds, holds at Ok
+pub at_ok : {T E : Type 0} (r : Result T E) (Q : Type 0) → Q → OnOk r Q
+at_ok (Ok x) Q h = h
+at_ok (Err e) Q h = tt
