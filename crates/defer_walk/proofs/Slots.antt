@@ -1,15 +1,15 @@
 -- The list of the cells that were asked for.
 use Rattle.std.proofs.Common.{lit<, ◌≡◌, ℕ, zero, suc, ◌+◌, ◌<◌, ◌≤◌, Bool, true, false, List, [], ◌∷◌, ◌++◌, length, take, drop, set, refl, ap, sym, ◌∙◌, subst, arith, append_assoc, Some, None, Option, inl, inr, add-one, get_or, eqb}
-use Rattle.std.proofs.lemmas.Bool.{cases_lt, eqb-true, ne_eqb, eq-eqb}
+use Rattle.std.proofs.lemmas.Bool.{cases_eq, cases_lt, eqb-true, ne_eqb, eq-eqb}
 use Rattle.std.proofs.lemmas.List.{append-nil, map-append, take-append-drop}
 use Rattle.std.proofs.lemmas.List.Elements.{All-append, All-nil, All-cons, All-head, All-tail, All-weaker, Contains-append_left, Contains-append_right}
 use Rattle.std.proofs.lemmas.Option.{slice_get_within}
-use Rattle.std.specs.Prelude.{map, slice_get, Contains, IfSome, All, ◌⊎◌, if◌then◌else◌}
+use Rattle.std.specs.Prelude.{map, slice_get, Contains, IfSome, IsSome, All, ◌⊎◌, if◌then◌else◌}
 use Rattle.hot_model.specs.World.{World}
 use Rattle.hot_model.specs.Answers.{true_answer}
 use Rattle.hot_model.specs.declared.list.Answer.{Answer}
 use Rattle.defer_walk.specs.declared.asks.Slot.{Slot}
-use Rattle.defer_walk.specs.Asked.{asked_keys, stored_at, filled, Grows, Extends}
+use Rattle.defer_walk.specs.Asked.{asked_keys, stored_at, filled, Grows, Extends, AreApart}
 
 pub some_same : {A : Type 0} {x y : A} → Some x ≡ Some y → x ≡ y
 some_same e = cc
@@ -209,3 +209,45 @@ stored_true w (x ∷ xs) k a h e = by_key (eqb x.key k) (λ b. eqb-true x.key k 
     by_key : (b : Bool) → (b ≡ true → x.key ≡ k) → (stored_at xs k ≡ Some a → a ≡ true_answer w k) → (if b then x.answer else stored_at xs k) ≡ Some a → a ≡ true_answer w k
     by_key true same ih f = subst (λ (n : ℕ). a ≡ true_answer w n) (same refl) (subst (λ (o : Option Answer). IfSome o (λ a. a ≡ true_answer w x.key)) f (All-head (λ (s : Slot). IfSome s.answer (λ a. a ≡ true_answer w s.key)) x xs h))
     by_key false same ih f = ih f
+
+-- the next key that is given out is a new one
+pub next_key : (slots : List Slot) (n : ℕ) (s : Slot) → AreApart slots → slice_get slots n ≡ Some s → (asked_keys (take (n + 1) slots) ≡ asked_keys (take n slots) ++ s.key ∷ []) × (Contains (asked_keys (take n slots)) s.key → ⊥)
+next_key slots n s apart e = (rw add-one (ap asked_keys (take_get slots n s e) ∙ map-append (λ (x : Slot). x.key) (take n slots) (s ∷ [])), fresh)
+  where
+    fresh : Contains (asked_keys (take n slots)) s.key → ⊥
+    fresh h =
+        let f = has_key (take n slots) s.key h in
+        let t = get_taken slots n f.0 f.1 f.2 in
+        let same : f.0 ≡ n = apart f.0 n f.1 s t.1 e f.3 in
+        omega (arith, same, t.0)
+
+pub given_asked : (slots : List Slot) (n key : ℕ) → Contains (asked_keys (take n slots)) key → Contains (asked_keys slots) key
+given_asked slots n key h =
+    subst (λ (ks : List ℕ). Contains ks key) (sym (map-append (λ (s : Slot). s.key) (take n slots) (drop n slots)) ∙ ap asked_keys (take-append-drop n slots))
+    (Contains-append_left (asked_keys (take n slots)) (asked_keys (drop n slots)) key h)
+
+-- what holds by owner and key, holds with an answer stored
+pub All-filled : (P : ℕ → ℕ → Type 0) (key : ℕ) (answer : Answer) (xs : List Slot) → All (λ s. P s.owner s.key) xs → All (λ s. P s.owner s.key) (filled xs key answer)
+All-filled P key answer [] h = h
+All-filled P key answer (x ∷ xs) h = by_key (eqb x.key key) (All-filled P key answer xs (All-tail (λ (s : Slot). P s.owner s.key) x xs h))
+  where
+    by_key : (b : Bool) → All (λ s. P s.owner s.key) (filled xs key answer) → All (λ s. P s.owner s.key) (if b then (record { owner = x.owner; key = x.key; answer = Some answer }) ∷ xs else (x ∷ filled xs key answer))
+    by_key true ih = All-cons (λ (s : Slot). P s.owner s.key) (record { owner = x.owner; key = x.key; answer = Some answer }) xs (All-head (λ (s : Slot). P s.owner s.key) x xs h) (All-tail (λ (s : Slot). P s.owner s.key) x xs h)
+    by_key false ih = All-cons (λ (s : Slot). P s.owner s.key) x (filled xs key answer) (All-head (λ (s : Slot). P s.owner s.key) x xs h) ih
+
+-- a true answer keeps the store true
+pub true_filled : (w : World) (key : ℕ) (answer : Answer) (xs : List Slot) → answer ≡ true_answer w key → All (λ s. IfSome s.answer (λ a. a ≡ true_answer w s.key)) xs → All (λ s. IfSome s.answer (λ a. a ≡ true_answer w s.key)) (filled xs key answer)
+true_filled w key answer [] t h = h
+true_filled w key answer (x ∷ xs) t h = by_key (eqb x.key key) (λ b. eqb-true x.key key b) (true_filled w key answer xs t (All-tail (λ (s : Slot). IfSome s.answer (λ a. a ≡ true_answer w s.key)) x xs h))
+  where
+    by_key : (b : Bool) → (b ≡ true → x.key ≡ key) → All (λ s. IfSome s.answer (λ a. a ≡ true_answer w s.key)) (filled xs key answer) → All (λ s. IfSome s.answer (λ a. a ≡ true_answer w s.key)) (if b then (record { owner = x.owner; key = x.key; answer = Some answer }) ∷ xs else (x ∷ filled xs key answer))
+    by_key true k ih = All-cons (λ (s : Slot). IfSome s.answer (λ a. a ≡ true_answer w s.key)) (record { owner = x.owner; key = x.key; answer = Some answer }) xs (t ∙ ap (true_answer w) (sym (k refl))) (All-tail (λ (s : Slot). IfSome s.answer (λ a. a ≡ true_answer w s.key)) x xs h)
+    by_key false k ih = All-cons (λ (s : Slot). IfSome s.answer (λ a. a ≡ true_answer w s.key)) x (filled xs key answer) (All-head (λ (s : Slot). IfSome s.answer (λ a. a ≡ true_answer w s.key)) x xs h) ih
+
+-- what was answered is answered
+pub some_filled : (key : ℕ) (answer : Answer) (xs : List Slot) (k : ℕ) → Contains (asked_keys xs) key → IsSome (stored_at xs k) → IsSome (stored_at (filled xs key answer) k)
+some_filled key answer xs k c h =
+    elim (cases_eq k key) [
+      | inl e ↦ subst (λ (o : Option Answer). IsSome o) (sym (ap (stored_at (filled xs key answer)) e ∙ stored_filled key answer xs c)) refl
+      | inr n ↦ subst (λ (o : Option Answer). IsSome o) (sym (stored_others key answer xs k n)) h
+    ]

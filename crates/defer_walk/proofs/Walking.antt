@@ -1,5 +1,5 @@
 -- A walk before and after an advance.
-use Rattle.std.proofs.Common.{ℕ, zero, suc, ◌≡◌, ◌+◌, ◌-◌, ◌<◌, ◌≤◌, Bool, true, false, List, [], ◌∷◌, ◌++◌, length, map, drop, sym, refl, ap, ◌∙◌, subst, inl, inr, arith, Option, Some, None}
+use Rattle.std.proofs.Common.{ℕ, zero, suc, ◌≡◌, ◌+◌, ◌-◌, ◌<◌, ◌≤◌, Bool, true, false, List, [], ◌∷◌, ◌++◌, length, map, drop, get_or, sym, refl, ap, ◌∙◌, subst, inl, inr, arith, Option, Some, None}
 use Rattle.std.specs.Prelude.{Result, Ok, Err, OnOk, All, Contains, ◌⊎◌, IsSome, slice_get}
 use Rattle.std.proofs.lemmas.List.{append-nil}
 use Rattle.std.proofs.lemmas.List.Elements.{All-nil}
@@ -8,7 +8,7 @@ use Rattle.hot_model.specs.Keys.{IsCell, HasLevel}
 use Rattle.hot_model.specs.World.{World, piece, bodies_in}
 use Rattle.hot_model.specs.Branches.{IsBranch, IsTop, parent}
 use Rattle.hot_model.specs.Needs.{is_away}
-use Rattle.hot_model.specs.Pairs.{PairValue, IsPair}
+use Rattle.hot_model.specs.Pairs.{PairValue, IsPair, still_asked}
 use Rattle.hot_model.proofs.Digits.{cell-pos}
 use Rattle.hot_model.proofs.Owners.{above_branch}
 use Rattle.hot_model.proofs.Asks.{top_not_away}
@@ -16,10 +16,13 @@ use Rattle.hot_model.proofs.Fronts.{level_zero}
 use Rattle.hot_model.proofs.Members.{map_has, all_members}
 use Rattle.defer_walk.specs.declared.asks.Slot.{Slot}
 use Rattle.defer_walk.specs.declared.listed.Listed.{Listed}
-use Rattle.defer_walk.specs.Asked.{asked_keys, stored_at, Extends}
+use Rattle.defer_walk.specs.Asked.{asked_keys, stored_at, filled, Extends}
 use Rattle.defer_walk.specs.Tallies.{TallyValue}
-use Rattle.defer_walk.specs.Standing.{VisitOf, WalkState, Stands, IsAsk, AreStored, IsBalanced, IsCounted, Waits, NoneBelow, AreRoots, IsNewAsk, pair_in, pairs_in}
+use Rattle.defer_walk.specs.Standing.{VisitOf, asked_by, WalkState, Stands, IsAsk, AreStored, IsBalanced, IsCounted, IsTraced, Waits, NoneBelow, AreRoots, IsNewAsk, pair_in, pairs_in}
 use Rattle.defer_walk.specs.Turning.{Beginning, ComesFrom, IsClear, Asks, Keeps, Runs, AreReady}
+use Rattle.hot_model.specs.declared.list.Answer.{Answer}
+use Rattle.hot_model.specs.Answers.{true_answer}
+use Rattle.defer_walk.proofs.Slots.{All-filled, true_filled, some_filled, keys_filled}
 use Rattle.defer_walk.proofs.Settles.{pair_full}
 use Rattle.defer_walk.proofs.Turnings.{All-has, away_test}
 
@@ -150,3 +153,44 @@ module _ {V A : Type 0} (v : VisitOf A) (w : World) (s : WalkState V A) (h : Sta
 pub at_ok : {T E : Type 0} (r : Result T E) (Q : Type 0) → Q → OnOk r Q
 at_ok (Ok x) Q h = h
 at_ok (Err e) Q h = tt
+
+-- an answer is stored
+pub stands_filled : {V A : Type 0} (v : VisitOf A) (w : World) (s : WalkState V A) → Stands v w s → (key : ℕ) (answer : Answer) → Contains (asked_keys s.slots) key → answer ≡ true_answer w key → Stands v w (record s { slots = filled s.slots key answer })
+stands_filled v w s h key answer there t = record {
+  good = h.good;
+  bodies = h.bodies;
+  long = h.long;
+  none = h.none;
+  store = record {
+    truth = true_filled w key answer s.slots t h.store.truth;
+    asks = λ k d l. rebuilt (get_or (filled s.slots key answer) k d) (All-filled (λ o k. IsAsk v w s.me s.slots (record { owner = o; key = k; answer = None })) key answer s.slots (λ k d l. plain (get_or s.slots k d) (h.store.asks k d l)) k d l);
+  };
+  fresh = λ a b. let f = h.fresh a b in record { pairs = f.pairs; slots = ap (λ (xs : List Slot). filled xs key answer) f.slots; accs = f.accs; opened = f.opened; cells = f.cells };
+  balance = h.balance;
+  count = λ a b. let c = h.count a b in record { opened = c.opened; cells = c.cells; asks = subst (λ (ks : List ℕ). IsTraced (λ b. still_asked (v.opens b) w s.me) (asked_by v w s.me) s.piece ks (pairs_in w s.pairs)) (sym (keys_filled key answer s.slots)) c.asks };
+  begun = λ a b c. let f = h.begun a b c in (f.0, ap (λ (xs : List Slot). filled xs key answer) f.1);
+  waits = λ a b c. let f = h.waits a b c in
+      (λ k d l. let x = f.0 k d l in record { opened = x.opened; away = x.away; asked = subst (λ (ks : List ℕ). Contains ks (get_or (pairs_in w s.pairs) k d).rec.key) (sym (keys_filled key answer s.slots)) x.asked },
+        All-filled (λ o k. All (λ (p : Listed). parent k ≡ p.key → ⊥) s.pairs) key answer s.slots f.1);
+}
+  where
+    plain : (x : Slot) → IsAsk v w s.me s.slots x → IsAsk v w s.me s.slots (record { owner = x.owner; key = x.key; answer = None })
+    plain x a = record { cell = a.cell; some = a.some; away = a.away; needed = a.needed; chained = a.chained }
+
+    rebuilt : (x : Slot) → IsAsk v w s.me s.slots (record { owner = x.owner; key = x.key; answer = None }) → IsAsk v w s.me (filled s.slots key answer) x
+    rebuilt x a = record { cell = a.cell; some = a.some; away = a.away; needed = a.needed; chained = elim a.chained [ inl f ↦ inl f | inr f ↦ inr (some_filled key answer s.slots (parent x.key) there f) ] }
+
+-- and giving a key out changes nothing that stands
+pub stands_given : {V A : Type 0} (v : VisitOf A) (w : World) (s : WalkState V A) → Stands v w s → (n : ℕ) → Stands v w (record s { given = n })
+stands_given v w s h n = record {
+  good = h.good;
+  bodies = h.bodies;
+  long = h.long;
+  none = h.none;
+  store = h.store;
+  fresh = λ a b. let f = h.fresh a b in record { pairs = f.pairs; slots = f.slots; accs = f.accs; opened = f.opened; cells = f.cells };
+  balance = h.balance;
+  count = h.count;
+  begun = h.begun;
+  waits = h.waits;
+}

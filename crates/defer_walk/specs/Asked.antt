@@ -36,3 +36,7 @@ pub record Extends (old new : List Slot) : Type 0 where
   pub more : List Slot
   pub new_is : new ≡ old ++ more
   pub unanswered : All (λ s. s.answer ≡ None) more
+
+-- no key stands twice
+abbrev pub AreApart : List Slot → Type 0
+AreApart slots = (i j : ℕ) (s t : Slot) → slice_get slots i ≡ Some s → slice_get slots j ≡ Some t → s.key ≡ t.key → i ≡ j

@@ -88,6 +88,7 @@ impl<V: Visit> Walk<V> {
         match list_roots(&mut self.pairs, self.piece.len() as u32) {
             Ok(()) => {
                 self.started = true;
+                self.advanced = false;
                 Ok(())
             }
             Err(e) => {
