@@ -1,24 +1,26 @@
 -- A walk before and after an advance.
 use Rattle.std.proofs.Common.{ℕ, zero, suc, ◌≡◌, ◌+◌, ◌-◌, ◌<◌, ◌≤◌, Bool, true, false, List, [], ◌∷◌, ◌++◌, length, map, drop, get_or, sym, refl, ap, ◌∙◌, subst, inl, inr, arith, Option, Some, None}
-use Rattle.std.specs.Prelude.{Result, Ok, Err, OnOk, All, Contains, ◌⊎◌, IsSome, slice_get}
+use Rattle.std.specs.Prelude.{Result, Ok, Err, OnOk, All, Contains, ◌⊎◌, ◌↔◌, IsSome, slice_get}
 use Rattle.std.proofs.lemmas.List.{append-nil}
 use Rattle.std.proofs.lemmas.List.Elements.{All-nil}
+use Rattle.std.proofs.lemmas.Option.{slice_get-get_or}
 use Rattle.hot_model.specs.Values.{BodyValue}
+use Rattle.hot_model.specs.Trees.{added}
 use Rattle.hot_model.specs.Keys.{IsCell, HasLevel}
 use Rattle.hot_model.specs.World.{World, piece, bodies_in}
 use Rattle.hot_model.specs.Branches.{IsBranch, IsTop, parent}
 use Rattle.hot_model.specs.Needs.{is_away}
-use Rattle.hot_model.specs.Pairs.{PairValue, IsPair, still_asked}
+use Rattle.hot_model.specs.Pairs.{PairValue, IsPair, rests_at, rest_of, still_asked, still_opened}
 use Rattle.hot_model.proofs.Digits.{cell-pos}
 use Rattle.hot_model.proofs.Owners.{above_branch}
 use Rattle.hot_model.proofs.Asks.{top_not_away}
 use Rattle.hot_model.proofs.Fronts.{level_zero}
-use Rattle.hot_model.proofs.Members.{map_has, all_members}
+use Rattle.hot_model.proofs.Members.{map_has, all_members, nil_has}
 use Rattle.defer_walk.specs.declared.asks.Slot.{Slot}
 use Rattle.defer_walk.specs.declared.listed.Listed.{Listed}
 use Rattle.defer_walk.specs.Asked.{asked_keys, stored_at, filled, Extends}
 use Rattle.defer_walk.specs.Tallies.{TallyValue}
-use Rattle.defer_walk.specs.Standing.{VisitOf, asked_by, WalkState, Stands, IsAsk, AreStored, IsBalanced, IsCounted, IsTraced, Waits, NoneBelow, AreRoots, IsNewAsk, pair_in, pairs_in}
+use Rattle.defer_walk.specs.Standing.{VisitOf, asked_by, opened_by, fold_in, WalkState, Stands, IsAsk, AreStored, IsBalanced, IsCounted, IsTraced, Waits, NoneBelow, AreRoots, IsNewAsk, pair_in, pairs_in}
 use Rattle.defer_walk.specs.Turning.{Beginning, ComesFrom, IsClear, Asks, Keeps, Runs, AreReady}
 use Rattle.hot_model.specs.declared.list.Answer.{Answer}
 use Rattle.hot_model.specs.Answers.{true_answer}
@@ -194,3 +196,33 @@ stands_given v w s h n = record {
   begun = h.begun;
   waits = h.waits;
 }
+
+-- what a walk has at its end: nothing rests
+module _ {V A : Type 0} (v : VisitOf A) (w : World) (s : WalkState V A) (h : Stands v w s) (started : s.started ≡ true) (fed : s.starved ≡ false) (over : s.pairs ≡ []) where
+  none_rests : (rest : PairValue → List ℕ) (i k : ℕ) → Contains (rests_at rest i (pairs_in w s.pairs)) k → ⊥
+  none_rests rest i k m = nil_has k (subst (λ (ls : List Listed). Contains (rests_at rest i (pairs_in w ls)) k) over m)
+
+  -- the opened cells are those of the bodies
+  pub opened_are : (k : ℕ) → Contains s.tally.cells k ↔ ((b : BodyValue) × Contains s.piece b × Contains (opened_by v w b) k)
+  opened_are k =
+      let c = (h.count started fed).cells in
+      (
+        (λ m. c.sound k m),
+        (λ x. elim (c.complete x.1.0 x.0 k (slice_get-get_or s.piece x.1.0 x.0 x.1.1 ∙ ap Some x.1.2) x.2) [
+          | inl f ↦ f
+          | inr f ↦ absurd (none_rests (still_opened (v.opens x.0) w) x.1.0 k f)
+        ]),
+      )
+
+  -- and the accumulators are the folds
+  pub folds_are : s.accs ≡ map (fold_in v w) s.piece
+  folds_are = by_place s.accs s.piece (h.balance started fed).long (λ i b a eb ea.
+      let sum = (h.balance started fed).sums i b a eb ea in
+      subst (λ (ls : List Listed). added (v.adds b) a (rests_at (rest_of (v.opens b) w) i (pairs_in w ls)) ≡ fold_in v w b) over sum)
+    where
+      by_place : (xs : List A) (ys : List BodyValue) → length xs ≡ length ys → ((i : ℕ) (b : BodyValue) (a : A) → slice_get ys i ≡ Some b → slice_get xs i ≡ Some a → a ≡ fold_in v w b) → xs ≡ map (fold_in v w) ys
+      by_place [] [] l f = refl
+      by_place [] (y ∷ ys) l f = absurd (omega arith)
+      by_place (x ∷ xs) [] l f = absurd (omega arith)
+      by_place (x ∷ xs) (y ∷ ys) l f =
+          ap (λ (z : A). z ∷ xs) (f 0 y x refl refl) ∙ ap (λ (zs : List A). fold_in v w y ∷ zs) (by_place xs ys (omega (arith, l)) (λ i b a e g. f (suc i) b a e g))
