@@ -7,3 +7,4 @@ pub mod Openings
 pub mod Turnings
 pub mod Advances
 pub mod Walking
+pub mod Beginnings

@@ -3,6 +3,7 @@ use Rattle.hot_model.specs.Limits.{max_bodies}
 use Rattle.hot_model.specs.Values.{BodyValue}
 use Rattle.defer_walk.specs.Standing.{StandsFor}
 use Rattle.defer_walk.proofs.Turnings.{filter_short}
+use Rattle.defer_walk.proofs.Beginnings.{roots_rest}
 use Rattle.defer_walk.proofs.walk.Walk.start.Goals as goal
 
 pub overflow_cast-len : goal.overflow_cast-len
