@@ -8,3 +8,4 @@ pub mod Turnings
 pub mod Advances
 pub mod Walking
 pub mod Beginnings
+pub mod Distinct

@@ -18,13 +18,17 @@ use Rattle.hot_model.proofs.Fronts.{level_zero}
 use Rattle.hot_model.proofs.Members.{map_has, all_members, nil_has}
 use Rattle.defer_walk.specs.declared.asks.Slot.{Slot}
 use Rattle.defer_walk.specs.declared.listed.Listed.{Listed}
-use Rattle.defer_walk.specs.Asked.{asked_keys, stored_at, filled, Extends}
+use Rattle.defer_walk.specs.Asked.{asked_keys, stored_at, filled, Extends, AreApart}
 use Rattle.defer_walk.specs.Tallies.{TallyValue}
 use Rattle.defer_walk.specs.Standing.{VisitOf, asked_by, opened_by, fold_in, WalkState, Stands, IsAsk, AreStored, IsBalanced, IsCounted, IsTraced, Waits, NoneBelow, AreRoots, IsNewAsk, pair_in, pairs_in}
 use Rattle.defer_walk.specs.Turning.{Beginning, ComesFrom, IsClear, Asks, Keeps, Runs, AreReady}
 use Rattle.hot_model.specs.declared.list.Answer.{Answer}
 use Rattle.hot_model.specs.Answers.{true_answer}
 use Rattle.defer_walk.proofs.Slots.{All-filled, true_filled, some_filled, keys_filled}
+use Rattle.hot_model.specs.Needs.{needed}
+use Rattle.hot_model.proofs.Demands.{needs-are-asks}
+use Rattle.hot_model.proofs.Counts.{needed-are, needed_ascend}
+use Rattle.defer_walk.proofs.Distinct.{shorter, ascends_distinct, asked_distinct, keys_long}
 use Rattle.defer_walk.proofs.Settles.{pair_full}
 use Rattle.defer_walk.proofs.Turnings.{All-has, away_test}
 
@@ -226,3 +230,19 @@ module _ {V A : Type 0} (v : VisitOf A) (w : World) (s : WalkState V A) (h : Sta
       by_place (x ∷ xs) [] l f = absurd (omega arith)
       by_place (x ∷ xs) (y ∷ ys) l f =
           ap (λ (z : A). z ∷ xs) (f 0 y x refl refl) ∙ ap (λ (zs : List A). fold_in v w y ∷ zs) (by_place xs ys (omega (arith, l)) (λ i b a e g. f (suc i) b a e g))
+
+  -- and as many cells were asked for as are needed
+  pub asks_are : AreApart s.slots → length s.slots ≡ length (needed v.opens w s.me)
+  asks_are apart =
+      let c = (h.count started fed).asks in
+      let few = shorter (asked_keys s.slots) (needed v.opens w s.me) (asked_distinct s.slots apart) (λ k m.
+      let x = c.sound k m in
+      (needed-are v.opens w s.me k).1 ((needs-are-asks v.opens w s.me k).1 (x.0, subst (λ (xs : List BodyValue). Contains xs x.0) h.bodies x.1, x.2))) in
+      let many = shorter (needed v.opens w s.me) (asked_keys s.slots) (ascends_distinct (needed v.opens w s.me) (needed_ascend v.opens w s.me h.good)) (λ k m.
+      let x = (needs-are-asks v.opens w s.me k).0 ((needed-are v.opens w s.me k).0 m) in
+      let at = subst (λ (xs : List BodyValue). Contains xs x.0) (sym h.bodies) x.1 in
+      elim (c.complete at.0 x.0 k (slice_get-get_or s.piece at.0 x.0 at.1 ∙ ap Some at.2) x.2) [
+        | inl f ↦ f
+        | inr f ↦ absurd (none_rests (still_asked (v.opens x.0) w s.me) at.0 k f)
+      ]) in
+      omega (arith, few, many, keys_long s.slots)
