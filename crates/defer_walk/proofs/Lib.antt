@@ -9,3 +9,4 @@ pub mod Advances
 pub mod Walking
 pub mod Beginnings
 pub mod Distinct
+pub mod Listings

@@ -257,7 +257,7 @@ module _ {A : Type 0} (add : A → Term → A) (opens : CellValue → Bool) (w :
 abbrev pub records_to : World → ℕ → ℕ → List CellValue
 records_to w c i = flat_map (λ d. option_to_list (record_in w (child c d))) (take i digits)
 
-records_more : (w : World) (c i : ℕ) → i < 8 → records_to w c (i + 1) ≡ records_to w c i ++ option_to_list (record_in w (child c i))
+pub records_more : (w : World) (c i : ℕ) → i < 8 → records_to w c (i + 1) ≡ records_to w c i ++ option_to_list (record_in w (child c i))
 records_more w c i h =
     let part : ℕ → List CellValue = λ d. option_to_list (record_in w (child c d)) in
     let t : take (i + 1) digits ≡ take i digits ++ (get_or digits i 0 ∷ []) = take_more digits i 0 h in

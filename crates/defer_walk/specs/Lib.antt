@@ -3,3 +3,4 @@ pub mod Tallies
 pub mod Asked
 pub mod Standing
 pub mod Turning
+pub mod Listing

@@ -5,6 +5,8 @@
 mod answers;
 mod asks;
 mod cells;
+#[cfg(test)]
+mod known;
 mod listed;
 mod progress;
 mod stages;
