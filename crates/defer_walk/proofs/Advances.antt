@@ -1,6 +1,6 @@
 -- How an advance takes up the pairs that are left, one by one.
-use Rattle.std.proofs.Common.{ℕ, zero, suc, ◌≡◌, ◌+◌, ◌-◌, ◌^◌, ◌<◌, ◌≤◌, Bool, true, false, List, [], ◌∷◌, ◌++◌, length, map, set, sym, refl, ap, ◌∙◌, subst, inl, inr, arith, Option, Some, None, append_assoc}
-use Rattle.std.specs.Prelude.{Result, Ok, Err, OnOk, All, Contains, ◌⊎◌, IfSome, IsSome, slice_get, if◌then◌else◌}
+use Rattle.std.proofs.Common.{ℕ, suc, ◌≡◌, ◌+◌, ◌-◌, ◌^◌, ◌<◌, ◌≤◌, Bool, true, false, List, [], ◌∷◌, ◌++◌, length, map, set, sym, refl, ap, ◌∙◌, subst, inl, inr, arith, Option, Some, None, append_assoc}
+use Rattle.std.specs.Prelude.{Result, Ok, Err, OnOk, All, Contains, IsSome, slice_get, if◌then◌else◌}
 use Rattle.std.proofs.lemmas.List.{append-nil, map-append}
 use Rattle.std.proofs.lemmas.List.Elements.{All-append, All-nil, Contains-append_left, Contains-append_right}
 use Rattle.hot_model.specs.Limits.{max_all_mass}
@@ -8,12 +8,11 @@ use Rattle.hot_model.specs.Values.{BodyValue, CellValue}
 use Rattle.hot_model.specs.Keys.{IsCell}
 use Rattle.hot_model.specs.Trees.{is_empty, Term, child, mass_of, mass_of_term, cell_record}
 use Rattle.hot_model.specs.World.{World, IsGood, piece, bodies_in, record_in}
-use Rattle.hot_model.specs.Branches.{IsBranch, IsOfRank, parent}
-use Rattle.hot_model.specs.Needs.{part_of, is_away}
+use Rattle.hot_model.specs.Branches.{IsBranch, parent}
+use Rattle.hot_model.specs.Needs.{is_away}
 use Rattle.hot_model.specs.Answers.{true_answer}
 use Rattle.hot_model.specs.Pairs.{PairValue, IsPair, pair_with, MaySwap}
 use Rattle.hot_model.specs.declared.list.Answer.{Answer}
-use Rattle.hot_model.specs.declared.part.Part.TheVariants.{Away}
 use Rattle.std.proofs.lemmas.Bool.{eqb-true}
 use Rattle.hot_model.proofs.Parts.{inside-root}
 use Rattle.hot_model.proofs.Aways.{away_own, own_away}
@@ -26,12 +25,12 @@ use Rattle.hot_model.proofs.Members.{map_has}
 use Rattle.defer_walk.specs.declared.asks.Slot.{Slot}
 use Rattle.defer_walk.specs.declared.listed.Listed.{Listed}
 use Rattle.defer_walk.specs.Asked.{asked_keys, stored_at, Extends}
-use Rattle.defer_walk.specs.Settling.{IsOpened, IsChildOf, Settles, Wakes, now_opened}
+use Rattle.defer_walk.specs.Settling.{IsOpened, IsChildOf, Wakes, now_opened}
 use Rattle.defer_walk.specs.Tallies.{TallyValue, Notes}
-use Rattle.defer_walk.specs.Standing.{VisitOf, AreStored, Waits, IsAwake, AreRoots, pair_in, pairs_in}
-use Rattle.defer_walk.specs.Turning.{Beginning, ComesFrom, Asks, Keeps, Runs}
+use Rattle.defer_walk.specs.Standing.{VisitOf, Waits, IsAwake, AreRoots, pair_in, pairs_in}
+use Rattle.defer_walk.specs.Turning.{Beginning, ComesFrom, Keeps, Runs}
 use Rattle.defer_walk.proofs.Settles.{pair_full}
-use Rattle.defer_walk.proofs.Keeping.{All-front, All-back, All-one, get_has, keeps_settled, keeps_moved}
+use Rattle.defer_walk.proofs.Keeping.{All-front, All-back, All-one, keeps_settled, keeps_moved}
 use Rattle.defer_walk.proofs.Turnings.{All-has, away_test, keeps_fits, keeps_room, filter_short}
 use Rattle.defer_walk.proofs.Slots.{keys_extend, stored_extends, stored_true}
 use Rattle.defer_walk.proofs.Noted.{one_has}

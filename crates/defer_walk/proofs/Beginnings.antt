@@ -1,16 +1,16 @@
 -- The pairs that a walk begins with.
-use Rattle.std.proofs.Common.{ℕ, zero, suc, ◌≡◌, ◌+◌, ◌-◌, ◌<◌, ◌≤◌, Bool, true, false, List, [], ◌∷◌, ◌++◌, length, map, take, flat_map, get_or, eqb, sym, refl, ap, ◌∙◌, subst, inl, inr, arith, Option, Some, None}
-use Rattle.std.specs.Prelude.{All, Contains, ◌⊎◌, slice_get, sum_by}
+use Rattle.std.proofs.Common.{ℕ, zero, suc, ◌≡◌, ◌<◌, ◌≤◌, true, false, List, [], ◌∷◌, ◌++◌, length, take, sym, refl, ap, ◌∙◌, subst, inl, inr, arith}
+use Rattle.std.specs.Prelude.{All, Contains, sum_by}
 use Rattle.std.proofs.lemmas.Bool.{cases_eq}
-use Rattle.std.proofs.lemmas.Option.{slice_get-get_or, slice_get_within, get_or_from_slice_get}
+use Rattle.std.proofs.lemmas.Option.{slice_get_within}
 use Rattle.std.proofs.lemmas.List.{append-nil, map-append}
 use Rattle.std.proofs.lemmas.List.Elements.{All-append, All-nil}
 use Rattle.std.proofs.lemmas.List.Sums.{sum_by-append, sum_by-cons}
 use Rattle.hot_model.specs.Limits.{max_level}
-use Rattle.hot_model.specs.Values.{BodyValue, CellValue}
+use Rattle.hot_model.specs.Values.{BodyValue}
 use Rattle.hot_model.specs.Keys.{height}
-use Rattle.hot_model.specs.Trees.{Term, added, terms_in, opened_in, cell_record, is_empty}
-use Rattle.hot_model.specs.World.{World, piece, bodies_in}
+use Rattle.hot_model.specs.Trees.{added, terms_in, opened_in, is_empty}
+use Rattle.hot_model.specs.World.{World}
 use Rattle.hot_model.specs.Needs.{asks_in}
 use Rattle.hot_model.specs.Pairs.{PairValue, IsPair, rests_at, rest_of, still_opened, still_asked}
 use Rattle.hot_model.proofs.Fronts.{root_is_cell, root_level}
@@ -94,8 +94,17 @@ module _ {V A : Type 0} (v : VisitOf A) (w : World) (s : WalkState V A) (h : Sta
       let one : left_to_open v w s.piece (pair_in w (root_of n)) ≡ length (opened_by v w g.0) = ap (left_for v w (pair_in w (root_of n))) g.1 ∙ ap (λ (k : ℕ). length (opened_in (v.opens g.0) w.leaf w.bodies k 1)) root_height in
       let left = ap (sum_by (left_to_open v w s.piece)) (pairs_next w n) in
       let t = ap (sum_by (λ b. length (opened_by v w b))) (take_get s.piece n g.0 g.1) in
-      omega (arith, one, left, t, counted n (omega (arith, l)), sum_by-append (left_to_open v w s.piece) (pairs_in w (roots n)) (pair_in w (root_of n) ∷ []), sum_by-cons (left_to_open v w s.piece) (pair_in w (root_of n)) [],
-      sum_by-append (λ (b : BodyValue). length (opened_by v w b)) (take n s.piece) (g.0 ∷ []), sum_by-cons (λ (b : BodyValue). length (opened_by v w b)) g.0 [])
+      omega (
+        arith,
+        one,
+        left,
+        t,
+        counted n (omega (arith, l)),
+        sum_by-append (left_to_open v w s.piece) (pairs_in w (roots n)) (pair_in w (root_of n) ∷ []),
+        sum_by-cons (left_to_open v w s.piece) (pair_in w (root_of n)) [],
+        sum_by-append (λ (b : BodyValue). length (opened_by v w b)) (take n s.piece) (g.0 ∷ []),
+        sum_by-cons (λ (b : BodyValue). length (opened_by v w b)) g.0 [],
+      )
 
   pub stands_started : Stands v w (record s { pairs = roots (length s.piece); started = true; advanced = false })
   stands_started = record {

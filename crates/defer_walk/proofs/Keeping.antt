@@ -1,13 +1,12 @@
 -- Sums, counts and traces, while pairs are replaced, moved and asked for.
-use Rattle.std.proofs.Common.{ℕ, zero, suc, ◌≡◌, ◌+◌, ◌*◌, ◌<◌, ◌≤◌, Bool, true, false, List, [], ◌∷◌, ◌++◌, length, map, flat_map, set, eqb, sym, refl, ap, ◌∙◌, subst, inl, inr, arith, Option, Some, None, append_assoc}
-use Rattle.std.specs.Prelude.{All, Contains, ◌⊎◌, ◌↔◌, slice_get, sum_by, if◌then◌else◌}
+use Rattle.std.proofs.Common.{ℕ, ◌≡◌, ◌<◌, true, false, List, [], ◌∷◌, ◌++◌, length, flat_map, set, eqb, sym, refl, ap, ◌∙◌, subst, inl, inr, arith, Some, append_assoc}
+use Rattle.std.specs.Prelude.{All, Contains, ◌⊎◌, ◌↔◌, slice_get, sum_by}
 use Rattle.std.proofs.lemmas.Bool.{cases_eq, eq-eqb, ne_eqb}
 use Rattle.std.proofs.lemmas.Option.{slice_get_within, get_or_from_slice_get}
-use Rattle.std.proofs.lemmas.List.{append-nil, map-append, length-append, length-set}
-use Rattle.std.proofs.lemmas.List.Concat.{flat_map-append}
+use Rattle.std.proofs.lemmas.List.{append-nil, length-append, length-set}
 use Rattle.std.proofs.lemmas.List.Elements.{All-append, All-nil, All-cons, All-head, All-tail, All-weaker, Contains-append_left, Contains-append_right, Contains-append_cases}
 use Rattle.std.proofs.lemmas.List.Sums.{sum_by-append, sum_by-cons}
-use Rattle.hot_model.specs.Values.{BodyValue, CellValue}
+use Rattle.hot_model.specs.Values.{BodyValue}
 use Rattle.hot_model.specs.Trees.{Term, added}
 use Rattle.hot_model.specs.World.{World}
 use Rattle.hot_model.specs.Pairs.{PairValue, IsPair, rest_of, still_opened, still_asked, rests_at, MaySwap}
@@ -18,7 +17,7 @@ use Rattle.defer_walk.specs.declared.asks.Slot.{Slot}
 use Rattle.defer_walk.specs.Asked.{asked_keys}
 use Rattle.defer_walk.specs.Settling.{Settles, now_opened}
 use Rattle.defer_walk.specs.Tallies.{TallyValue, Notes}
-use Rattle.defer_walk.specs.Standing.{VisitOf, fold_in, opened_by, asked_by, AreStored, IsBalanced, IsTraced, IsCounted, left_for, left_to_open}
+use Rattle.defer_walk.specs.Standing.{VisitOf, fold_in, opened_by, asked_by, AreStored, IsTraced, left_for, left_to_open}
 use Rattle.defer_walk.specs.Turning.{Keeps}
 use Rattle.defer_walk.proofs.Slots.{some_same, get_set_same, get_set_other}
 

@@ -14,9 +14,9 @@ use Rattle.hot_model.specs.Values.{BodyValue}
 use Rattle.hot_model.specs.Keys.{key_of_body}
 use Rattle.hot_model.specs.Trees.{mass_of, mass_of_body}
 use Rattle.hot_model.specs.Order.{before}
-use Rattle.hot_model.specs.Forces.{RowsCount, RowsDiffer}
+use Rattle.hot_model.specs.Forces.{RowsCount}
 use Rattle.hot_model.specs.World.{World, IsBody, IsGood, rank_of}
-use Rattle.hot_model.specs.Branches.{first_rank, one_rank, all_of_rank}
+use Rattle.hot_model.specs.Branches.{first_rank, one_rank}
 use Rattle.hot_model.specs.Facts.{IsCellRecord}
 use Rattle.hot_model.specs.Trees.{child}
 use Rattle.hot_model.specs.Values.{CellValue}
@@ -29,7 +29,7 @@ use Rattle.hot_model.proofs.Digits.{level-le, level-has}
 use Rattle.hot_model.proofs.Owners.{top_is_high}
 use Rattle.defer_walk.specs.Settling.{IsParted}
 use Rattle.defer_walk.proofs.Settles.{records_to, records_more}
-use Rattle.defer_walk.specs.Listing.{ListingValue, IsListing, rank_by, world_of}
+use Rattle.defer_walk.specs.Listing.{ListingValue, IsListing, world_of}
 
 filter_grows : (p q : ℕ → Bool) → ((c : ℕ) → p c ≡ true → q c ≡ true) → (cs : List ℕ) → length (filter p cs) ≤ length (filter q cs)
 filter_grows p q h [] = omega arith
@@ -164,7 +164,7 @@ scanned_more w (x ∷ xs) b owner next one count h e =
       counted = omega (arith, h.counted, length-append (x ∷ xs) (b ∷ []));
       owner_is = n ∙ h.owner_is;
       one_is =
-        rw (n, h.owner_is, h.one_is) (
+          rw (n, h.owner_is, h.one_is) (
           list_step (λ c. eqb (rank_of w c) (rank_of w x)) (x ∷ xs) b);
     }
   where

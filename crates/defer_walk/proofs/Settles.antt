@@ -1,6 +1,6 @@
 -- What one turn leaves of a pair.
-use Rattle.std.proofs.Common.{ℕ, zero, suc, ◌≡◌, ◌+◌, ◌-◌, ◌^◌, ◌<◌, ◌≤◌, Bool, true, false, List, [], ◌∷◌, ◌++◌, length, map, flat_map, take, drop, get_or, sym, refl, ap, ◌∙◌, subst, inl, inr, arith, Option, Some, None, add-one, append_assoc}
-use Rattle.std.specs.Prelude.{All, Contains, ◌⊎◌, ◌≢◌, option_to_list, slice_get, sum_by, if◌then◌else◌}
+use Rattle.std.proofs.Common.{ℕ, zero, suc, ◌≡◌, ◌+◌, ◌^◌, ◌<◌, ◌≤◌, Bool, true, false, List, [], ◌∷◌, ◌++◌, length, map, flat_map, take, drop, get_or, sym, refl, ap, ◌∙◌, subst, inl, inr, arith, Option, Some, add-one, append_assoc}
+use Rattle.std.specs.Prelude.{All, Contains, option_to_list, slice_get, if◌then◌else◌}
 use Rattle.std.proofs.Math.Nat.{pow-succ'}
 use Rattle.std.proofs.Math.Seq.{drop-cons}
 use Rattle.std.proofs.lemmas.Option.{slice_get_cases, slice_get_within, get_or_from_slice_get}
@@ -9,15 +9,14 @@ use Rattle.std.proofs.lemmas.List.Concat.{flat_map-append}
 use Rattle.std.proofs.lemmas.List.Elements.{All-nil, All-map}
 use Rattle.std.proofs.lemmas.List.Sums.{sum_by-cons}
 use Rattle.hot_model.specs.Values.{BodyValue, CellValue}
-use Rattle.hot_model.specs.Keys.{height, IsCell}
-use Rattle.hot_model.specs.Trees.{Term, Far, Near, added, listed, mass_of, mass_of_body, mass_of_term, child, digits, cell_record, is_empty}
+use Rattle.hot_model.specs.Keys.{height}
+use Rattle.hot_model.specs.Trees.{Term, Far, Near, added, listed, mass_of, mass_of_body, child, digits}
 use Rattle.hot_model.specs.World.{World, IsGood, bodies_in, record_in, is_leaf}
 use Rattle.hot_model.specs.Needs.{part_of, is_away, itself, outer_of}
 use Rattle.hot_model.specs.Answers.{child_records, true_answer}
-use Rattle.hot_model.specs.Pairs.{PairValue, IsPair, rest_of, still_asked, still_opened, pair_with, child_pairs, weight, weights}
-use Rattle.hot_model.specs.declared.list.Answer.{Answer}
+use Rattle.hot_model.specs.Pairs.{PairValue, IsPair, rest_of, still_asked, still_opened, pair_with, child_pairs}
 use Rattle.hot_model.specs.declared.list.Answer.TheVariants.{Bodies, Children}
-use Rattle.hot_model.specs.declared.part.Part.TheVariants.{Inner, Spread, Leaf, Away}
+use Rattle.hot_model.specs.declared.part.Part.TheVariants.{Inner, Spread, Leaf}
 use Rattle.hot_model.proofs.Parts.{digits-at}
 use Rattle.hot_model.proofs.Members.{all_members, has_map, head_has}
 use Rattle.hot_model.proofs.Children.{child_record_is}
@@ -26,8 +25,8 @@ use Rattle.hot_model.proofs.Asks.{top_not_away}
 use Rattle.hot_model.proofs.Walks.{some_length}
 use Rattle.hot_model.proofs.Aways.{leaf-is, spread-is, inner-is}
 use Rattle.hot_model.proofs.Heights.{height_is, height_level, has_children, outer_of_away}
-use Rattle.hot_model.proofs.Steps.{record_some, rest_far, rest_leaf, rest_parted, opened_far, opened_leaf, opened_parted, asked_far, asked_leaf, asked_parted, whole_parted, whole_asked, whole_away, outer_own, children_are, children_lighter}
-use Rattle.defer_walk.specs.Settling.{IsOpened, IsParted, IsChildOf, Settles, Turns, Wakes, now_opened}
+use Rattle.hot_model.proofs.Steps.{record_some, rest_far, rest_leaf, rest_parted, opened_far, opened_leaf, opened_parted, asked_far, asked_leaf, asked_parted, whole_parted, whole_asked, outer_own, children_are, children_lighter}
+use Rattle.defer_walk.specs.Settling.{IsOpened, IsChildOf, Settles, Turns, Wakes, now_opened}
 
 -- a pair of the world has bodies, and its record has their number and mass
 pub pair_full : (w : World) (p : PairValue) → IsPair w p → (0 < length (bodies_in w p.rec.key)) × (p.rec.count ≡ length (bodies_in w p.rec.key)) × (p.rec.mass ≡ mass_of (bodies_in w p.rec.key))

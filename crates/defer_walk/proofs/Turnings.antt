@@ -1,28 +1,28 @@
 -- An advance between two turns.
-use Rattle.std.proofs.Common.{ℕ, zero, suc, ◌≡◌, ◌+◌, ◌-◌, ◌*◌, ◌^◌, ◌<◌, ◌≤◌, Bool, true, false, List, [], ◌∷◌, ◌++◌, length, map, flat_map, filter, cond, set, get_or, eqb, sym, refl, ap, ◌∙◌, subst, inl, inr, arith, Option, Some, None, append_assoc, lit<, lit≤}
-use Rattle.std.specs.Prelude.{All, Contains, ◌⊎◌, ◌↔◌, IfSome, IsSome, slice_get, sum_by}
+use Rattle.std.proofs.Common.{ℕ, suc, ◌≡◌, ◌+◌, ◌-◌, ◌*◌, ◌^◌, ◌<◌, ◌≤◌, Bool, true, false, List, [], ◌∷◌, ◌++◌, length, filter, cond, set, get_or, sym, refl, ap, ◌∙◌, subst, inl, inr, arith, Some, None, append_assoc}
+use Rattle.std.specs.Prelude.{All, Contains, ◌⊎◌, IfSome, IsSome, slice_get, sum_by}
 use Rattle.std.proofs.Math.Nat.{mul-le-mul_left, mul-le-mul_right}
 use Rattle.std.proofs.lemmas.Option.{slice_get-get_or}
-use Rattle.std.proofs.lemmas.List.{append-nil, map-append}
-use Rattle.std.proofs.lemmas.List.Elements.{All-append, All-nil, All-cons, All-head, All-tail, All-weaker, Contains-append_left, Contains-append_right, Contains-append_cases}
+use Rattle.std.proofs.lemmas.List.{map-append}
+use Rattle.std.proofs.lemmas.List.Elements.{All-append, All-nil, All-head, All-weaker, Contains-append_cases}
 use Rattle.std.proofs.lemmas.List.Sums.{sum_by-append, sum_by-cons}
 use Rattle.hot_model.specs.Limits.{max_bodies, max_all_mass}
 use Rattle.hot_model.specs.Values.{BodyValue, CellValue}
 use Rattle.hot_model.specs.Keys.{IsCell, height}
-use Rattle.hot_model.specs.Trees.{Term, added, mass_of, mass_of_term, cell_record, terms, child, opened}
-use Rattle.hot_model.specs.World.{World, IsGood, piece, bodies_in, record_in}
-use Rattle.hot_model.specs.Branches.{IsBranch, IsOwner, parent}
-use Rattle.hot_model.specs.Needs.{part_of, is_away, Needs, asks}
+use Rattle.hot_model.specs.Trees.{Term, mass_of, mass_of_term, cell_record, terms, child}
+use Rattle.hot_model.specs.World.{World, IsGood, piece, bodies_in}
+use Rattle.hot_model.specs.Branches.{IsBranch, parent}
+use Rattle.hot_model.specs.Needs.{part_of, is_away, Needs}
 use Rattle.hot_model.specs.Answers.{true_answer}
 use Rattle.hot_model.specs.Pairs.{PairValue, IsPair, pair_with, rest_of, still_asked, rests_at, MaySwap, weights, weight}
 use Rattle.hot_model.specs.declared.part.Part.TheVariants.{Away}
 use Rattle.hot_model.proofs.Members.{has_map}
 use Rattle.hot_model.proofs.Ties.{mass-listed, mass-terms, mass-all_terms}
-use Rattle.hot_model.proofs.Walks.{seen-added, full_length}
+use Rattle.hot_model.proofs.Walks.{seen-added}
 use Rattle.hot_model.proofs.Aways.{away-is, foreign_away}
 use Rattle.hot_model.proofs.Asks.{away_child}
 use Rattle.hot_model.proofs.Owners.{one_owner}
-use Rattle.hot_model.proofs.Fronts.{covers-self, parent_of_child}
+use Rattle.hot_model.proofs.Fronts.{covers-self}
 use Rattle.hot_model.proofs.Demands.{needs-are-asks}
 use Rattle.hot_model.proofs.Heights.{height_is, height_level}
 use Rattle.hot_model.proofs.Steps.{record_some}
@@ -30,10 +30,10 @@ use Rattle.hot_model.proofs.Swaps.{rests-append}
 use Rattle.defer_walk.specs.declared.asks.Slot.{Slot}
 use Rattle.defer_walk.specs.declared.listed.Listed.{Listed}
 use Rattle.defer_walk.specs.Asked.{asked_keys, stored_at, Grows, Extends}
-use Rattle.defer_walk.specs.Settling.{IsOpened, IsChildOf, Settles, Turns, now_opened}
+use Rattle.defer_walk.specs.Settling.{IsOpened, IsChildOf, Turns, now_opened}
 use Rattle.defer_walk.specs.Tallies.{TallyValue, Notes}
-use Rattle.defer_walk.specs.Standing.{VisitOf, opened_by, asked_by, IsAsk, AreStored, Waits, NoneBelow, IsAwake, IsNewAsk, pair_in, pairs_in, left_to_open}
-use Rattle.defer_walk.specs.Turning.{Beginning, ComesFrom, IsClear, Asks, Keeps, Runs}
+use Rattle.defer_walk.specs.Standing.{VisitOf, opened_by, asked_by, IsAsk, AreStored, Waits, IsAwake, IsNewAsk, pair_in, pairs_in}
+use Rattle.defer_walk.specs.Turning.{Beginning, ComesFrom, IsClear, Keeps, Runs}
 use Rattle.defer_walk.proofs.Slots.{has_key, stored_none, stored_more, stored_extends, keys_extend, grows_extends}
 use Rattle.defer_walk.proofs.Settles.{pair_full, nine_pos, waiting_asks}
 use Rattle.defer_walk.proofs.Keeping.{All-front, All-back, All-one, get_has, rests_one, end_rests, keeps_settled, keeps_moved, keeps_asked}

@@ -1,14 +1,14 @@
 -- A walk before and after an advance.
-use Rattle.std.proofs.Common.{ℕ, zero, suc, ◌≡◌, ◌+◌, ◌-◌, ◌<◌, ◌≤◌, Bool, true, false, List, [], ◌∷◌, ◌++◌, length, map, drop, get_or, sym, refl, ap, ◌∙◌, subst, inl, inr, arith, Option, Some, None}
-use Rattle.std.specs.Prelude.{Result, Ok, Err, OnOk, All, Contains, ◌⊎◌, ◌↔◌, IsSome, slice_get}
+use Rattle.std.proofs.Common.{ℕ, zero, suc, ◌≡◌, ◌≤◌, Bool, true, false, List, [], ◌∷◌, ◌++◌, length, map, drop, get_or, sym, refl, ap, ◌∙◌, subst, inl, inr, arith, Option, Some, None}
+use Rattle.std.specs.Prelude.{Result, Ok, Err, OnOk, All, Contains, ◌↔◌, IsSome, slice_get}
 use Rattle.std.proofs.lemmas.List.{append-nil}
 use Rattle.std.proofs.lemmas.List.Elements.{All-nil}
 use Rattle.std.proofs.lemmas.Option.{slice_get-get_or}
 use Rattle.hot_model.specs.Values.{BodyValue}
 use Rattle.hot_model.specs.Trees.{added}
 use Rattle.hot_model.specs.Keys.{IsCell, HasLevel}
-use Rattle.hot_model.specs.World.{World, piece, bodies_in}
-use Rattle.hot_model.specs.Branches.{IsBranch, IsTop, parent}
+use Rattle.hot_model.specs.World.{World}
+use Rattle.hot_model.specs.Branches.{IsBranch, parent}
 use Rattle.hot_model.specs.Needs.{is_away}
 use Rattle.hot_model.specs.Pairs.{PairValue, IsPair, rests_at, rest_of, still_asked, still_opened}
 use Rattle.hot_model.proofs.Digits.{cell-pos}
@@ -20,8 +20,8 @@ use Rattle.defer_walk.specs.declared.asks.Slot.{Slot}
 use Rattle.defer_walk.specs.declared.listed.Listed.{Listed}
 use Rattle.defer_walk.specs.Asked.{asked_keys, stored_at, filled, Extends, AreApart}
 use Rattle.defer_walk.specs.Tallies.{TallyValue}
-use Rattle.defer_walk.specs.Standing.{VisitOf, asked_by, opened_by, fold_in, WalkState, Stands, IsAsk, AreStored, IsBalanced, IsCounted, IsTraced, Waits, NoneBelow, AreRoots, IsNewAsk, pair_in, pairs_in}
-use Rattle.defer_walk.specs.Turning.{Beginning, ComesFrom, IsClear, Asks, Keeps, Runs, AreReady}
+use Rattle.defer_walk.specs.Standing.{VisitOf, asked_by, opened_by, fold_in, WalkState, Stands, IsAsk, AreStored, IsTraced, Waits, NoneBelow, IsNewAsk, pair_in, pairs_in}
+use Rattle.defer_walk.specs.Turning.{Beginning, ComesFrom, IsClear, Keeps, Runs, AreReady}
 use Rattle.hot_model.specs.declared.list.Answer.{Answer}
 use Rattle.hot_model.specs.Answers.{true_answer}
 use Rattle.defer_walk.proofs.Slots.{All-filled, true_filled, some_filled, keys_filled}
@@ -175,9 +175,10 @@ stands_filled v w s h key answer there t = record {
   balance = h.balance;
   count = λ a b. let c = h.count a b in record { opened = c.opened; cells = c.cells; asks = subst (λ (ks : List ℕ). IsTraced (λ b. still_asked (v.opens b) w s.me) (asked_by v w s.me) s.piece ks (pairs_in w s.pairs)) (sym (keys_filled key answer s.slots)) c.asks };
   begun = λ a b c. let f = h.begun a b c in (f.0, ap (λ (xs : List Slot). filled xs key answer) f.1);
-  waits = λ a b c. let f = h.waits a b c in
-      (λ k d l. let x = f.0 k d l in record { opened = x.opened; away = x.away; asked = subst (λ (ks : List ℕ). Contains ks (get_or (pairs_in w s.pairs) k d).rec.key) (sym (keys_filled key answer s.slots)) x.asked },
-        All-filled (λ o k. All (λ (p : Listed). parent k ≡ p.key → ⊥) s.pairs) key answer s.slots f.1);
+  waits = λ a b c. let f = h.waits a b c in (
+    λ k d l. let x = f.0 k d l in record { opened = x.opened; away = x.away; asked = subst (λ (ks : List ℕ). Contains ks (get_or (pairs_in w s.pairs) k d).rec.key) (sym (keys_filled key answer s.slots)) x.asked },
+    All-filled (λ o k. All (λ (p : Listed). parent k ≡ p.key → ⊥) s.pairs) key answer s.slots f.1,
+  );
 }
   where
     plain : (x : Slot) → IsAsk v w s.me s.slots x → IsAsk v w s.me s.slots (record { owner = x.owner; key = x.key; answer = None })
@@ -209,8 +210,7 @@ module _ {V A : Type 0} (v : VisitOf A) (w : World) (s : WalkState V A) (h : Sta
   -- the opened cells are those of the bodies
   pub opened_are : (k : ℕ) → Contains s.tally.cells k ↔ ((b : BodyValue) × Contains s.piece b × Contains (opened_by v w b) k)
   opened_are k =
-      let c = (h.count started fed).cells in
-      (
+      let c = (h.count started fed).cells in (
         (λ m. c.sound k m),
         (λ x. elim (c.complete x.1.0 x.0 k (slice_get-get_or s.piece x.1.0 x.0 x.1.1 ∙ ap Some x.1.2) x.2) [
           | inl f ↦ f

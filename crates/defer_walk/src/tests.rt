@@ -81,7 +81,15 @@ fn gravity(rt: &impl Abort, num: u32, den: u32) -> ForceVisit {
 
 /// What a walk gave: how many bodies, what each of them saw, how many pairs were opened, how many cells were asked for, and
 /// how many cells were opened.
-fn gave(rt: &impl Abort, got: &WalkResult<Acc3>, bodies: usize, seen: u64, opened: u64, asks: u64, cells: usize) {
+fn gave(
+    rt: &impl Abort,
+    got: &WalkResult<Acc3>,
+    bodies: usize,
+    seen: u64,
+    opened: u64,
+    asks: u64,
+    cells: usize,
+) {
     assert_eq!(rt; got.accs.len(), bodies);
     for acc in &got.accs {
         assert_eq!(rt; acc.seen, seen);
@@ -93,6 +101,7 @@ fn gave(rt: &impl Abort, got: &WalkResult<Acc3>, bodies: usize, seen: u64, opene
 
 /// The first key with the digit 4 in front, and with 6.
 const FOUR: u64 = 13835058055282163712;
+
 const SIX: u64 = 16140901064495857664;
 
 /// Half the edge of the cube.
@@ -134,7 +143,14 @@ fn a_chain_of_asks(rt: HostRuntime) {
     known.add(&rt, HALF + 33554432, 0, 0, 3);
     known.add(&rt, HALF, HALF, 0, 4);
     let asks = [(2, 14), (1, 12), (1, 96), (1, 768), (1, 6148), (1, 6144)];
-    let result = walked(&rt, alloc, &known, gravity(&rt, 0, 1), &[2, 1, 1, 2, 0], &asks);
+    let result = walked(
+        &rt,
+        alloc,
+        &known,
+        gravity(&rt, 0, 1),
+        &[2, 1, 1, 2, 0],
+        &asks,
+    );
     gave(&rt, &result, 1, 10, 8, 6, 8);
 }
 
@@ -172,8 +188,32 @@ fn at_one_place(rt: HostRuntime) {
     known.add(&rt, HALF, 0, 0, 2);
     known.add(&rt, HALF, 0, 0, 3);
     // a cell a level, down to the last, which is a leaf
-    let asks = [(1, 12), (1, 96), (1, 768), (1, 6144), (1, 49152), (1, 393216), (1, 3145728), (1, 25165824), (1, 201326592), (1, 1610612736), (1, 12884901888), (1, 103079215104), (1, 824633720832), (1, 6597069766656), (1, 52776558133248), (1, 422212465065984), (1, 3377699720527872), (1, 27021597764222976), (1, 216172782113783808), (1, 1729382256910270464), (1, 13835058055282163712)];
-    let waits = [1, 1, 1, 1, 1, 1, 1, 1, 1, 1, 1, 1, 1, 1, 1, 1, 1, 1, 1, 1, 1, 0];
+    let asks = [
+        (1, 12),
+        (1, 96),
+        (1, 768),
+        (1, 6144),
+        (1, 49152),
+        (1, 393216),
+        (1, 3145728),
+        (1, 25165824),
+        (1, 201326592),
+        (1, 1610612736),
+        (1, 12884901888),
+        (1, 103079215104),
+        (1, 824633720832),
+        (1, 6597069766656),
+        (1, 52776558133248),
+        (1, 422212465065984),
+        (1, 3377699720527872),
+        (1, 27021597764222976),
+        (1, 216172782113783808),
+        (1, 1729382256910270464),
+        (1, 13835058055282163712),
+    ];
+    let waits = [
+        1, 1, 1, 1, 1, 1, 1, 1, 1, 1, 1, 1, 1, 1, 1, 1, 1, 1, 1, 1, 1, 0,
+    ];
     let result = walked(&rt, alloc, &known, gravity(&rt, 0, 1), &waits, &asks);
     gave(&rt, &result, 1, 6, 23, 21, 23);
 }

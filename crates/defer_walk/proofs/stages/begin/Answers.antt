@@ -1,10 +1,7 @@
-use Rattle.std.proofs.Common.{rules, ◌≡◌, ◌<◌, ℕ, sym, ◌∙◌, subst, ap, refl, List, ◌∷◌, [], ◌++◌, None, Some, length, false, true}
-use Rattle.std.specs.Prelude.{All}
-use Rattle.hot_model.specs.World.{World, IsGood, piece}
-use Rattle.hot_model.specs.Pairs.{PairValue}
+use Rattle.std.proofs.Common.{rules, ◌≡◌, subst, List, [], false}
 use Rattle.defer_walk.specs.declared.listed.Listed.{Listed}
-use Rattle.defer_walk.specs.Standing.{VisitOf, meaning, pairs_in, AreRoots}
-use Rattle.defer_walk.specs.Turning.{Beginning, Runs}
+use Rattle.defer_walk.specs.Standing.{VisitOf, meaning, pairs_in}
+use Rattle.defer_walk.specs.Turning.{Runs}
 use Rattle.defer_walk.proofs.Slots.{extends_trans}
 use Rattle.defer_walk.proofs.Advances.{begun, front_of}
 use Rattle.defer_walk.proofs.stages.begin.Goals as goal

@@ -1,6 +1,5 @@
-use Rattle.std.proofs.Common.{ℕ, ◌≡◌, length, List, [], false, Some, vec_len}
+use Rattle.std.proofs.Common.{ℕ, ◌≡◌, [], false, Some, vec_len}
 use Rattle.hot_model.specs.World.{World, IsGood, piece, record_in}
-use Rattle.hot_model.specs.Pairs.{PairValue}
 use Rattle.defer_walk.specs.Asked.{Extends}
 use Rattle.defer_walk.specs.Standing.{meaning, pairs_in, AreRoots}
 use Rattle.defer_walk.specs.Turning.{Beginning, Runs}

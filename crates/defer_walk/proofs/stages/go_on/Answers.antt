@@ -1,8 +1,7 @@
-use Rattle.std.proofs.Common.{◌≡◌, ℕ, sym, ◌∙◌, subst, ap, refl, List, [], Bool, true, false}
-use Rattle.hot_model.specs.World.{World, IsGood, piece}
+use Rattle.std.proofs.Common.{sym, ◌∙◌, subst, List, [], Bool}
 use Rattle.defer_walk.specs.declared.listed.Listed.{Listed}
 use Rattle.defer_walk.specs.Standing.{VisitOf, meaning, pairs_in}
-use Rattle.defer_walk.specs.Turning.{Beginning, Runs, AreReady}
+use Rattle.defer_walk.specs.Turning.{Runs, AreReady}
 use Rattle.defer_walk.proofs.Advances.{none_left, on_ok}
 use Rattle.defer_walk.proofs.stages.go_on.Goals as goal
 

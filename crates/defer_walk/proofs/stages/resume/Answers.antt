@@ -1,14 +1,13 @@
-use Rattle.std.proofs.Common.{rules, ◌≡◌, ◌<◌, ◌+◌, ◌≤◌, ℕ, sym, ◌∙◌, subst, ap, refl, List, ◌∷◌, [], ◌++◌, None, Some, length, false, true, set, get_or}
-use Rattle.std.specs.Prelude.{All, slice_get}
+use Rattle.std.proofs.Common.{rules, ◌≡◌, ◌<◌, ℕ, sym, ◌∙◌, subst, ap, refl, List, ◌∷◌, [], None, Some, length, get_or}
+use Rattle.std.specs.Prelude.{slice_get}
 use Rattle.std.specs.Option.{option_copied}
 use Rattle.std.proofs.lemmas.Option.{slice_get-get_or}
-use Rattle.hot_model.specs.World.{World, IsGood, piece}
-use Rattle.hot_model.specs.Pairs.{PairValue, MaySwap}
+use Rattle.hot_model.specs.Pairs.{PairValue}
 use Rattle.defer_walk.specs.declared.listed.Listed.{Listed}
 use Rattle.defer_walk.specs.Asked.{stored_at}
 use Rattle.defer_walk.specs.Settling.{Wakes}
 use Rattle.defer_walk.specs.Standing.{VisitOf, meaning, pair_in, pairs_in}
-use Rattle.defer_walk.specs.Turning.{Beginning, Runs}
+use Rattle.defer_walk.specs.Turning.{Runs}
 use Rattle.defer_walk.proofs.Slots.{extends_trans}
 use Rattle.defer_walk.proofs.Turnings.{got as got_at}
 use Rattle.defer_walk.proofs.Advances.{more_left, left_pair, left_body, left_away, left_opened, left_waits, left_wakes, left_true, left_fits, left_room}

@@ -1,7 +1,6 @@
-use Rattle.std.proofs.Common.{ℕ, ◌≡◌, length, List, [], ◌++◌, true, Some, vec_len}
+use Rattle.std.proofs.Common.{ℕ, ◌≡◌, List, [], ◌++◌, true, vec_len}
 use Rattle.std.specs.Prelude.{All}
-use Rattle.hot_model.specs.World.{World, IsGood, piece, record_in}
-use Rattle.hot_model.specs.Pairs.{PairValue}
+use Rattle.hot_model.specs.World.{World, IsGood, piece}
 use Rattle.defer_walk.specs.declared.listed.Listed.{Listed}
 use Rattle.defer_walk.specs.Asked.{Extends}
 use Rattle.defer_walk.specs.Standing.{meaning, pairs_in, Waits}

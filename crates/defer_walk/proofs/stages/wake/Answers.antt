@@ -1,4 +1,4 @@
-use Rattle.std.proofs.Common.{◌≡◌, ℕ, sym, ◌∙◌, ap, refl}
+use Rattle.std.proofs.Common.{sym, ◌∙◌, ap}
 use Rattle.defer_walk.specs.Standing.{pair_in}
 use Rattle.defer_walk.proofs.Settles.{wakes_bodies, wakes_children}
 use Rattle.defer_walk.proofs.stages.wake.Goals.{in-Bodies+in_ok-near_all-in-Bodies, in-Children+in_ok-push_all-in-Children}

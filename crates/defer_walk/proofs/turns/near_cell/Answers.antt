@@ -1,4 +1,4 @@
-use Rattle.std.proofs.Common.{◌≡◌, ℕ, sym, ◌∙◌, ap, subst, arith, rules, Some, None, length}
+use Rattle.std.proofs.Common.{sym, ◌∙◌, ap, arith}
 use Rattle.hot_model.specs.World.{bodies_in}
 use Rattle.hot_model.specs.Trees.{Near}
 use Rattle.defer_walk.proofs.Settles.{near_value, near_room, near_fits, get_some}

@@ -1,10 +1,10 @@
-use Rattle.std.proofs.Common.{◌≡◌, ℕ, ◌+◌, ◌<◌, ◌≤◌, ◌++◌, sym, ◌∙◌, ap, subst, map, arith, rules, Some, None, length, refl, inl, inr, true, false}
+use Rattle.std.proofs.Common.{◌≡◌, ℕ, ◌<◌, ◌++◌, sym, ◌∙◌, ap, subst, map, length, refl, inl, inr, true, false}
 use Rattle.hot_model.specs.Trees.{added, Near}
 use Rattle.hot_model.specs.World.{bodies_in}
 use Rattle.hot_model.specs.Needs.{part_of}
 use Rattle.hot_model.specs.Answers.{child_records}
 use Rattle.hot_model.specs.Pairs.{pair_with}
-use Rattle.hot_model.specs.declared.part.Part.TheVariants.{Inner, Spread, Leaf, Away}
+use Rattle.hot_model.specs.declared.part.Part.TheVariants.{Inner, Spread, Leaf}
 use Rattle.defer_walk.specs.Settling.{IsParted}
 use Rattle.defer_walk.proofs.Settles.{pair_full, turns_leaf, turns_inner, turns_spread}
 use Rattle.defer_walk.proofs.turns.open.Goals as goal

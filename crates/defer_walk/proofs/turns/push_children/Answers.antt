@@ -1,4 +1,4 @@
-use Rattle.std.proofs.Common.{◌≡◌, ℕ, ◌++◌, map, sym, ◌∙◌, ap, arith, rules, Some, None, length, List, ◌∷◌, []}
+use Rattle.std.proofs.Common.{◌++◌, sym, ◌∙◌, ap, arith, Some, None, ◌∷◌, []}
 use Rattle.std.proofs.lemmas.List.{append-nil}
 use Rattle.hot_model.specs.Pairs.{PairValue}
 use Rattle.defer_walk.proofs.Settles.{push_step}

@@ -1,4 +1,4 @@
-use Rattle.std.proofs.Common.{◌≡◌, ℕ, sym, ◌∙◌, ap, subst, refl, false}
+use Rattle.std.proofs.Common.{◌≡◌, sym, ◌∙◌, ap, subst, refl, false}
 use Rattle.hot_model.specs.Values.{CellValue}
 use Rattle.hot_model.specs.Trees.{Far}
 use Rattle.defer_walk.proofs.Settles.{turns_far}

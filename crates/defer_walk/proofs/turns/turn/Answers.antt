@@ -1,16 +1,11 @@
-use Rattle.std.proofs.Common.{◌≡◌, ◌<◌, ℕ, sym, ◌∙◌, subst, ap, refl, List, ◌∷◌, [], ◌++◌, None, Some, set, get_or, length}
+use Rattle.std.proofs.Common.{◌≡◌, ◌<◌, ℕ, sym, ◌∙◌, subst, ap, refl, List, ◌∷◌, [], ◌++◌, Some, set, get_or, length}
 use Rattle.std.specs.Prelude.{slice_get, Contains}
 use Rattle.std.specs.Option.{is_some}
 use Rattle.std.proofs.lemmas.Option.{slice_get-get_or}
-use Rattle.hot_model.specs.Values.{BodyValue}
-use Rattle.hot_model.specs.Trees.{Term}
-use Rattle.hot_model.specs.World.{World, IsGood, piece}
-use Rattle.hot_model.specs.Pairs.{PairValue, MaySwap, weights}
-use Rattle.defer_walk.specs.declared.asks.Slot.{Slot}
+use Rattle.hot_model.specs.Pairs.{PairValue, weights}
 use Rattle.defer_walk.specs.declared.listed.Listed.{Listed}
 use Rattle.defer_walk.specs.Asked.{asked_keys, Grows}
 use Rattle.defer_walk.specs.Standing.{VisitOf, meaning, pairs_in}
-use Rattle.defer_walk.specs.Turning.{Beginning, Runs}
 use Rattle.defer_walk.proofs.Slots.{set_same}
 use Rattle.defer_walk.proofs.Turnings.{got, pair_listed, pairs_listed, less_pop, turned_lighter, turn_pair, turn_fits, turn_room, turn_stored, runs_turned, runs_waits, runs_same}
 use Rattle.defer_walk.proofs.turns.turn.Goals as goal

@@ -1,8 +1,7 @@
-use Rattle.std.proofs.Common.{rules, ◌≡◌, ◌<◌, ℕ, sym, ◌∙◌, subst, ap, refl, List, ◌∷◌, [], ◌++◌, None, Some, length}
-use Rattle.hot_model.specs.World.{World, IsGood, piece}
+use Rattle.std.proofs.Common.{rules, ◌≡◌, subst, List, []}
 use Rattle.hot_model.specs.Pairs.{PairValue}
 use Rattle.defer_walk.specs.Standing.{VisitOf, meaning, pairs_in}
-use Rattle.defer_walk.specs.Turning.{Beginning, Runs}
+use Rattle.defer_walk.specs.Turning.{Runs}
 use Rattle.defer_walk.proofs.Slots.{extends_trans}
 use Rattle.defer_walk.proofs.Turnings.{turn_body}
 use Rattle.defer_walk.proofs.turns.work_off.Goals as goal

@@ -1,4 +1,4 @@
-use Rattle.std.proofs.Common.{ℕ, ◌≡◌, length, List}
+use Rattle.std.proofs.Common.{ℕ, ◌≡◌, List}
 use Rattle.hot_model.specs.World.{World, IsGood, piece}
 use Rattle.hot_model.specs.Pairs.{PairValue, weights}
 use Rattle.defer_walk.specs.Asked.{Extends}

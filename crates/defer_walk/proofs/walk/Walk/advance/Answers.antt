@@ -1,10 +1,10 @@
-use Rattle.std.proofs.Common.{◌≡◌, ℕ, sym, ◌∙◌, subst, ap, refl, List, ◌∷◌, [], ◌++◌, None, Some, length, drop}
+use Rattle.std.proofs.Common.{sym, ◌∙◌, subst, ap, refl, List, length, drop}
 use Rattle.std.proofs.lemmas.List.{with_items_is}
 use Rattle.std.specs.Prelude.{All}
 use Rattle.hot_model.specs.Values.{BodyValue}
 use Rattle.defer_walk.specs.Standing.{VisitOf, meaning, StandsFor, IsNewAsk, pairs_in}
-use Rattle.defer_walk.specs.Turning.{AreReady, Runs}
-use Rattle.defer_walk.proofs.Walking.{beginning, ready, runs_begin, runs_as, runs_back, stands_on, stands_starved, end_newly, end_waits, at_ok}
+use Rattle.defer_walk.specs.Turning.{AreReady}
+use Rattle.defer_walk.proofs.Walking.{ready, runs_begin, runs_as, runs_back, stands_on, stands_starved, end_newly, end_waits, at_ok}
 use Rattle.defer_walk.proofs.walk.Walk.advance.Goals as goal
 
 pub go_on-worked-requires-clause-fits : goal.go_on-worked-requires-clause-fits
@@ -13,8 +13,7 @@ go_on-worked-requires-clause-fits g c = λ κs l.
     let v : VisitOf g.row.V-Acc.Denot = meaning g.V.Visit.zero_of g.V.Visit.adds g.V.Visit.opens_by g.V.Acc.Seen.seen_of s.visit in
     let w = c.requires.fits.0 in
     let h = subst (λ s. StandsFor g.V.Visit.zero_of g.V.Visit.adds g.V.Visit.opens_by g.V.Acc.Seen.seen_of w s) (sym c.self.view_is) c.requires.fits.2 in
-    let started = ap (λ s. s.started) c.self.view_is ∙ c.requires.started in
-    (
+    let started = ap (λ s. s.started) c.self.view_is ∙ c.requires.started in (
       w,
       s.me,
       record { advanced = s.advanced; slots = s.asks; pairs = s.pairs.items },

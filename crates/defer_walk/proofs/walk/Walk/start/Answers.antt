@@ -1,4 +1,4 @@
-use Rattle.std.proofs.Common.{◌≡◌, ◌≤◌, ℕ, sym, ◌∙◌, subst, ap, refl, List, ◌++◌, length, arith, true, false}
+use Rattle.std.proofs.Common.{◌≤◌, sym, ◌∙◌, subst, ap, List, ◌++◌, length, arith, true, false}
 use Rattle.hot_model.specs.Limits.{max_bodies}
 use Rattle.hot_model.specs.Values.{BodyValue}
 use Rattle.defer_walk.specs.Standing.{VisitOf, WalkState, Stands, meaning, roots, StandsFor}

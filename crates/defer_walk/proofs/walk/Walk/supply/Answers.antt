@@ -1,7 +1,7 @@
-use Rattle.std.proofs.Common.{◌≡◌, ◌≤◌, ℕ, sym, ◌∙◌, subst, ap, refl, List, length, take}
+use Rattle.std.proofs.Common.{◌≤◌, ℕ, sym, ◌∙◌, subst, ap, List, length, take}
 use Rattle.std.specs.Prelude.{Contains}
 use Rattle.defer_walk.specs.declared.asks.Slot.{Slot}
-use Rattle.defer_walk.specs.Asked.{asked_keys, stored_at, filled}
+use Rattle.defer_walk.specs.Asked.{asked_keys, stored_at}
 use Rattle.defer_walk.specs.Standing.{VisitOf, meaning, StandsFor, Stands, WalkState, given_of, answer_of}
 use Rattle.defer_walk.proofs.Slots.{given_asked, length_filled, given_filled, stored_filled, stored_others}
 use Rattle.defer_walk.proofs.Walking.{stands_filled}
