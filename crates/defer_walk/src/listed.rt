@@ -12,6 +12,8 @@ pub struct Listed {
     pub key: u64,
 }
 
+const _: () = prove!(size_of::<Listed>() <= 16);
+
 /// A pair in its turn, with the record of its cell.
 #[derive(Clone, Copy)]
 pub struct Pair {
