@@ -1,4 +1,4 @@
--- The version of letters, and the sizes of their parts. All of them stand here, so a new version is an edit of this file.
+-- The version of letters, and the sizes of their parts.
 use Rattle.std.specs.Prelude.{ℕ, ◌*◌, ◌^◌}
 
 -- the version of letters

@@ -1,0 +1,12 @@
+pub mod Settles
+pub mod Noted
+pub mod Slots
+pub mod Indexed
+pub mod Keeping
+pub mod Openings
+pub mod Turnings
+pub mod Advances
+pub mod Walking
+pub mod Beginnings
+pub mod Distinct
+pub mod Listings
