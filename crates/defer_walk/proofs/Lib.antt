@@ -10,3 +10,4 @@ pub mod Walking
 pub mod Beginnings
 pub mod Distinct
 pub mod Listings
+pub mod Masses

@@ -2,7 +2,7 @@
 use Rattle.std.specs.Prelude.{ℕ, zero, suc, ◌≡◌, ◌≢◌, ◌+◌, ◌<◌, ◌≤◌, Bool, true, false, List, [], ◌∷◌, ◌++◌, length, map, take, sum_by, All, Contains, Option, Some, None, IfSome, IsSome, slice_get, ◌⊎◌}
 use Rattle.hot_model.specs.Values.{BodyValue, CellValue}
 use Rattle.hot_model.specs.Keys.{IsCell}
-use Rattle.hot_model.specs.Trees.{Term, added, fold_of, opened, cell_record}
+use Rattle.hot_model.specs.Trees.{Term, mass_of_term, mass_of, added, fold_of, opened, cell_record}
 use Rattle.hot_model.specs.World.{World, IsGood, piece, bodies_in}
 use Rattle.hot_model.specs.Branches.{IsBranch, parent}
 use Rattle.hot_model.specs.Needs.{Needs, part_of, asks}
@@ -189,3 +189,7 @@ IsAwake slots pairs k = Contains (map (λ p. p.key) pairs) k × IsSome (stored_a
 abbrev pub IsNewAsk : Bool → World → List Slot → List Listed → Slot → Type 0
 IsNewAsk false w was pairs s = IsBranch w s.owner s.key
 IsNewAsk true w was pairs s = IsAwake was pairs (parent s.key)
+
+-- what each body has seen, with the mass of what rests of its pairs, is the mass of all bodies
+abbrev pub SeesAll : {V A : Type 0} → VisitOf A → World → WalkState V A → Type 0
+SeesAll {V} {A} v w s = (i : ℕ) (b : BodyValue) (a : A) → slice_get s.piece i ≡ Some b → slice_get s.accs i ≡ Some a → v.seen a + sum_by mass_of_term (rests_at (rest_of (v.opens b) w) i (pairs_in w s.pairs)) ≡ mass_of w.bodies

@@ -7,6 +7,7 @@ mod asks;
 mod cells;
 #[cfg(test)]
 mod known;
+mod laws;
 mod listed;
 mod progress;
 mod stages;
@@ -18,5 +19,6 @@ mod walk;
 
 pub use cells::Cells;
 pub use hot_model::Part;
+pub use laws::masses_add_up;
 pub use progress::{Ask, Progress, WalkResult};
 pub use walk::Walk;
