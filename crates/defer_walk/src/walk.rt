@@ -1,4 +1,4 @@
-ghost use Rattle.std.specs.Prelude.{◌≡◌, ◌≢◌, ℕ, ◌<◌, ◌≤◌, Bool, true, false, List, [], ◌∷◌, ◌++◌, Some, None, IfOk, OnOk, OnErr, IfSome, IsSome, IsNone, IsTrue, ◌⊎◌, ◌↔◌, length, map, sum_by, drop, All, Contains, slice_get};
+ghost use Rattle.std.specs.Prelude.{◌≡◌, ◌≢◌, ℕ, ◌<◌, ◌≤◌, Bool, true, false, List, [], ◌∷◌, ◌++◌, Some, None, IfOk, OnOk, OnErr, IsErr, IfSome, IsSome, IsNone, IsTrue, ◌⊎◌, ◌↔◌, length, map, sum_by, drop, All, Contains, slice_get};
 ghost use Rattle.std.specs.List.Sorted.{IsStrictlyIncreasing};
 ghost use Rattle.hot_model.specs.Values.{BodyValue};
 ghost use Rattle.hot_model.specs.World.{World, IsGood, piece as piece_of};
@@ -70,16 +70,17 @@ impl<V: Visit> Walk<V> {
         })
     }
 
-    /// Lists each body with the root. Where memory runs out the walk is starved and not started, and a starved walk
-    /// answers want of memory.
+    /// Lists each body with the root. Where memory runs out the walk is starved and not started. It may be called on
+    /// any starved walk too, which answers want of memory.
     pub fn start<C: Cells>(&mut self, cells: &C) -> Result<(), AllocError>
-        requires fresh { self.old.started ≡ false }
+        requires fresh { self.old.starved ≡ false → self.old.started ≡ false }
         requires fits { (w : World) × C.stands cells.now w self.old.me × StandsFor V.zero_of V.adds V.opens_by V.Acc.seen_of w self.old }
         ensures stands { (w : World) → C.stands cells.now w self.old.me → StandsFor V.zero_of V.adds V.opens_by V.Acc.seen_of w self.old → StandsFor V.zero_of V.adds V.opens_by V.Acc.seen_of w self.new }
         ensures same { IsSameWalk self.old self.new }
         ensures given { (self.new.slots ≡ self.old.slots) × (self.new.given ≡ self.old.given) }
         ensures ok { OnOk result ((self.new.started ≡ true) × (self.new.advanced ≡ false) × (self.new.starved ≡ false)) }
-        ensures err { OnErr result ((self.new.started ≡ false) × (self.new.starved ≡ true)) }
+        ensures err { OnErr result ((self.new.started ≡ self.old.started) × (self.new.starved ≡ true)) }
+        ensures starved { self.old.starved ≡ true → IsErr result }
     {
         let _ = cells;
         if self.starved {
@@ -99,9 +100,9 @@ impl<V: Visit> Walk<V> {
     }
 
     /// Works until every pair that is left waits for an absent cell, and answers how many do. Where memory runs out the
-    /// walk is starved, and a starved walk answers want of memory.
+    /// walk is starved. It may be called on any starved walk too, which answers want of memory.
     pub fn advance<C: Cells>(&mut self, cells: &C) -> Result<Progress, AllocError>
-        requires started { self.old.started ≡ true }
+        requires started { self.old.starved ≡ false → self.old.started ≡ true }
         requires fits { (w : World) × C.stands cells.now w self.old.me × StandsFor V.zero_of V.adds V.opens_by V.Acc.seen_of w self.old }
         ensures stands { (w : World) → C.stands cells.now w self.old.me → StandsFor V.zero_of V.adds V.opens_by V.Acc.seen_of w self.old → StandsFor V.zero_of V.adds V.opens_by V.Acc.seen_of w self.new }
         ensures same { IsSameWalk self.old self.new }
@@ -111,7 +112,8 @@ impl<V: Visit> Walk<V> {
         ensures progress { IfOk result (λ p. IsProgress p self.new.pairs) }
         ensures waits { OnOk result ((w : World) → C.stands cells.now w self.old.me → StandsFor V.zero_of V.adds V.opens_by V.Acc.seen_of w self.old → All (λ p. Waits (meaning V.zero_of V.adds V.opens_by V.Acc.seen_of self.new.visit) w self.new.me self.new.piece self.new.slots p × (answer_of self.new p.rec.key ≡ None)) (pairs_in w self.new.pairs)) }
         ensures newly { OnOk result ((w : World) → C.stands cells.now w self.old.me → StandsFor V.zero_of V.adds V.opens_by V.Acc.seen_of w self.old → All (IsNewAsk self.old.advanced w self.old.slots self.old.pairs) (drop (length self.old.slots) self.new.slots)) }
-        ensures err { OnErr result ((self.new.started ≡ true) × (self.new.starved ≡ true)) }
+        ensures err { OnErr result ((self.new.started ≡ self.old.started) × (self.new.starved ≡ true)) }
+        ensures starved { self.old.starved ≡ true → IsErr result }
     {
         if self.starved {
             return Err(AllocError);

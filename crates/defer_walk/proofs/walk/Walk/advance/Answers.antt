@@ -13,7 +13,7 @@ go_on-worked-requires-clause-fits g c = λ κs l.
     let v : VisitOf g.row.V-Acc.Denot = meaning g.V.Visit.zero_of g.V.Visit.adds g.V.Visit.opens_by g.V.Acc.Seen.seen_of s.visit in
     let w = c.requires.fits.0 in
     let h = subst (λ s. StandsFor g.V.Visit.zero_of g.V.Visit.adds g.V.Visit.opens_by g.V.Acc.Seen.seen_of w s) (sym c.self.view_is) c.requires.fits.2 in
-    let started = ap (λ s. s.started) c.self.view_is ∙ c.requires.started in (
+    let started = ap (λ s. s.started) c.self.view_is ∙ c.requires.started (sym (ap (λ s. s.starved) c.self.view_is) ∙ c.if-self.false) in (
       w,
       s.me,
       record { advanced = s.advanced; slots = s.asks; pairs = s.pairs.items },
@@ -32,7 +32,7 @@ returns-in-Err-clause-stands g c = λ w stands h.
     let s = c.self.inside in
     let v : VisitOf g.row.V-Acc.Denot = meaning g.V.Visit.zero_of g.V.Visit.adds g.V.Visit.opens_by g.V.Acc.Seen.seen_of s.visit in
     let k = subst (λ s. StandsFor g.V.Visit.zero_of g.V.Visit.adds g.V.Visit.opens_by g.V.Acc.Seen.seen_of w s) (sym c.self.view_is) h in
-    let started = ap (λ s. s.started) c.self.view_is ∙ c.requires.started in
+    let started = ap (λ s. s.started) c.self.view_is ∙ c.requires.started (sym (ap (λ s. s.starved) c.self.view_is) ∙ c.if-self.false) in
     let there = subst (λ s. g.C.Cells.stands c.args.cells.now w s.me) (sym c.self.view_is) stands in
     let begun = runs_as v w s.me (record { advanced = s.advanced; slots = s.asks; pairs = s.pairs.items }) s.piece.items c.deref.result.now s.accs.items c.deref_mut.result.now s.tally s.asks (pairs_in w s.pairs.items) c.new-waiting.result.items c.deref.ensures.value c.deref_mut.ensures.value c.new-waiting.ensures.items
     (runs_begin v w _ k started c.if-self.false) in
@@ -47,7 +47,7 @@ returns-after-len-clause-stands g c = λ w stands h.
     let s = c.self.inside in
     let v : VisitOf g.row.V-Acc.Denot = meaning g.V.Visit.zero_of g.V.Visit.adds g.V.Visit.opens_by g.V.Acc.Seen.seen_of s.visit in
     let k = subst (λ s. StandsFor g.V.Visit.zero_of g.V.Visit.adds g.V.Visit.opens_by g.V.Acc.Seen.seen_of w s) (sym c.self.view_is) h in
-    let started = ap (λ s. s.started) c.self.view_is ∙ c.requires.started in
+    let started = ap (λ s. s.started) c.self.view_is ∙ c.requires.started (sym (ap (λ s. s.starved) c.self.view_is) ∙ c.if-self.false) in
     let there = subst (λ s. g.C.Cells.stands c.args.cells.now w s.me) (sym c.self.view_is) stands in
     let begun = runs_as v w s.me (record { advanced = s.advanced; slots = s.asks; pairs = s.pairs.items }) s.piece.items c.deref.result.now s.accs.items c.deref_mut.result.now s.tally s.asks (pairs_in w s.pairs.items) c.new-waiting.result.items c.deref.ensures.value c.deref_mut.ensures.value c.new-waiting.ensures.items
     (runs_begin v w _ k started c.if-self.false) in
@@ -63,7 +63,7 @@ returns-after-len-clause-waits g c = at_ok c.match-len.result _ (λ w stands h.
     let s = c.self.inside in
     let v : VisitOf g.row.V-Acc.Denot = meaning g.V.Visit.zero_of g.V.Visit.adds g.V.Visit.opens_by g.V.Acc.Seen.seen_of s.visit in
     let k = subst (λ s. StandsFor g.V.Visit.zero_of g.V.Visit.adds g.V.Visit.opens_by g.V.Acc.Seen.seen_of w s) (sym c.self.view_is) h in
-    let started = ap (λ s. s.started) c.self.view_is ∙ c.requires.started in
+    let started = ap (λ s. s.started) c.self.view_is ∙ c.requires.started (sym (ap (λ s. s.starved) c.self.view_is) ∙ c.if-self.false) in
     let there = subst (λ s. g.C.Cells.stands c.args.cells.now w s.me) (sym c.self.view_is) stands in
     let begun = runs_as v w s.me (record { advanced = s.advanced; slots = s.asks; pairs = s.pairs.items }) s.piece.items c.deref.result.now s.accs.items c.deref_mut.result.now s.tally s.asks (pairs_in w s.pairs.items) c.new-waiting.result.items c.deref.ensures.value c.deref_mut.ensures.value c.new-waiting.ensures.items
     (runs_begin v w _ k started c.if-self.false) in
@@ -79,7 +79,7 @@ returns-after-len-clause-newly g c = at_ok c.match-len.result _ (λ w stands h.
     let s = c.self.inside in
     let v : VisitOf g.row.V-Acc.Denot = meaning g.V.Visit.zero_of g.V.Visit.adds g.V.Visit.opens_by g.V.Acc.Seen.seen_of s.visit in
     let k = subst (λ s. StandsFor g.V.Visit.zero_of g.V.Visit.adds g.V.Visit.opens_by g.V.Acc.Seen.seen_of w s) (sym c.self.view_is) h in
-    let started = ap (λ s. s.started) c.self.view_is ∙ c.requires.started in
+    let started = ap (λ s. s.started) c.self.view_is ∙ c.requires.started (sym (ap (λ s. s.starved) c.self.view_is) ∙ c.if-self.false) in
     let there = subst (λ s. g.C.Cells.stands c.args.cells.now w s.me) (sym c.self.view_is) stands in
     let begun = runs_as v w s.me (record { advanced = s.advanced; slots = s.asks; pairs = s.pairs.items }) s.piece.items c.deref.result.now s.accs.items c.deref_mut.result.now s.tally s.asks (pairs_in w s.pairs.items) c.new-waiting.result.items c.deref.ensures.value c.deref_mut.ensures.value c.new-waiting.ensures.items
     (runs_begin v w _ k started c.if-self.false) in

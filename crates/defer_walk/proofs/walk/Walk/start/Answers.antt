@@ -21,7 +21,7 @@ returns-in-Ok-clause-stands g c = λ w stands h.
     let s = c.self.inside in
     let v : VisitOf g.row.V-Acc.Denot = meaning g.V.Visit.zero_of g.V.Visit.adds g.V.Visit.opens_by g.V.Acc.Seen.seen_of s.visit in
     let k = subst (λ s. StandsFor g.V.Visit.zero_of g.V.Visit.adds g.V.Visit.opens_by g.V.Acc.Seen.seen_of w s) (sym c.self.view_is) h in
-    let idle = ap (λ s. s.started) c.self.view_is ∙ c.requires.fresh in
+    let idle = ap (λ s. s.started) c.self.view_is ∙ c.requires.fresh (sym (ap (λ s. s.starved) c.self.view_is) ∙ c.if-self.false) in
     let state : List Listed → WalkState g.row.V.Denot g.row.V-Acc.Denot = λ (xs : List Listed). record { me = s.me; visit = s.visit; piece = s.piece.items; accs = s.accs.items; pairs = xs; slots = s.asks; given = s.given; tally = s.tally; started = true; advanced = false; starved = s.starved } in
     let e = c.in-Ok.ensures.value ∙ ap (λ (xs : List Listed). xs ++ roots c.len.result) (k.fresh idle c.if-self.false).pairs ∙ ap roots (c.len.ensures ∙ s.piece.ok.0) in
     subst (λ (xs : List Listed). Stands v w (state xs)) (sym e) (stands_started v w _ k idle c.if-self.false)
