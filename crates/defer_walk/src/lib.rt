@@ -6,6 +6,8 @@ mod answers;
 mod asks;
 mod cells;
 #[cfg(test)]
+mod hungry;
+#[cfg(test)]
 mod known;
 mod laws;
 mod listed;
