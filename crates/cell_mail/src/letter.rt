@@ -137,9 +137,10 @@ impl Letter {
         })
     }
 
-    /// The content whose spelling the bytes are.
+    /// The content whose spelling the bytes are. It keeps the rules of the grammar.
     pub fn read(&self, alloc: Global) -> Result<Content, AllocError>
         ensures content { IfOk result (λ c. c ≡ self.now.content) }
+        ensures good { IfOk result (λ c. HasSpelling c) }
     {
         match parsed(alloc, self.bytes.as_slice()) {
             Ok((content, _rest)) => Ok(content),
@@ -165,6 +166,7 @@ impl Letter {
     /// The sender, below 64. It takes no memory.
     pub fn from(&self) -> u32
         ensures sender { result ≡ self.now.from }
+        ensures ranks { letters.AreRanks self.now.from self.now.to }
     {
         self.from
     }
@@ -172,6 +174,7 @@ impl Letter {
     /// The receiver, below 64 and not the sender. It takes no memory.
     pub fn to(&self) -> u32
         ensures receiver { result ≡ self.now.to }
+        ensures ranks { letters.AreRanks self.now.from self.now.to }
     {
         self.to
     }
