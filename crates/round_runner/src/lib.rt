@@ -17,4 +17,4 @@ pub use entry::{Entry, Note};
 pub use gate::{Gate, OpenGate};
 pub use log::Log;
 pub use mem_wire::MemWire;
-pub use wire::{PostRefused, Wire};
+pub use wire::{PostRefused, Turn, Wire};

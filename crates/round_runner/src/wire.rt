@@ -8,7 +8,7 @@ use hot_model::Mail;
 /// Where a wire is in a round: a letter may be taken, or one was taken and `more` is asked next, or no more are
 /// taken in this round.
 #[derive(Clone, Copy)]
-pub(crate) enum Turn {
+pub enum Turn {
     Free,
     Used,
     Shut,
