@@ -1,6 +1,7 @@
 -- What a piece and its two neighbouring keys tell of all bodies.
-use Rattle.std.specs.Prelude.{ℕ, ◌≡◌, ◌<◌, ◌↔◌, true, List, length, Contains}
+use Rattle.std.specs.Prelude.{ℕ, suc, ◌≡◌, ◌<◌, ◌≤◌, ◌*◌, ◌↔◌, true, List, length, Contains}
 use Rattle.std.specs.List.Sorted.{IsStrictlyIncreasing}
+use Rattle.hot_model.specs.Limits.{max_level}
 use Rattle.hot_model.specs.Values.{BodyValue}
 use Rattle.hot_model.specs.Order.{IsInOrder}
 use Rattle.hot_model.specs.Keys.{IsCell}
@@ -28,9 +29,10 @@ OwnCellsAreWhole = (w : World) (q c : ℕ) → IsCell c → IsOfRank w q c → I
 abbrev pub HomesGiveBranches : Type 0
 HomesGiveBranches = (w : World) (q : ℕ) → IsGood w → home_branches (piece w q) (left_of w q) (right_of w q) ≡ branch_records w q
 
--- the cells with bodies of a list in order ascend strictly, and each such cell is there
+-- the cells with bodies of a list in order ascend strictly, each such cell is there, and there are at most 22 for each body
 pub record AreAllCells (bodies : List BodyValue) : Type 0 where
   pub ascend : IsStrictlyIncreasing (cells bodies)
+  pub few : length (cells bodies) ≤ suc max_level * length bodies
   pub all : (k : ℕ) → Contains (cells bodies) k ↔ (IsCell k × (0 < length (inside bodies k)))
 
 -- this holds of every list in order

@@ -18,7 +18,8 @@ pub fn homes_give_branches()
     ensures law { laws.HomesGiveBranches }
 {}
 
-/// The list of the cells that have bodies, level by level, has each of them once, by strictly ascending key.
+/// The list of the cells that have bodies, level by level, has each of them once, by strictly ascending key, and at most
+/// 22 for each body.
 pub fn cells_are_listed()
     ensures law { laws.CellsAreListed }
 {}

@@ -1,7 +1,7 @@
 use Rattle.hot_model.specs.Branches.{cells}
-use Rattle.hot_model.proofs.Counts.{cells-are, cells_ascend}
+use Rattle.hot_model.proofs.Counts.{cells-are, cells_ascend, cells_short}
 use Rattle.hot_model.proofs.Sorts.{ascends_strict}
 use Rattle.local_tree.proofs.laws.cells_are_listed.Goals as goal
 
 pub returns : goal.returns
-returns c = record { law = λ bodies g. record { ascend = ascends_strict (cells bodies) (cells_ascend bodies g); all = cells-are bodies } }
+returns c = record { law = λ bodies g. record { ascend = ascends_strict (cells bodies) (cells_ascend bodies g); few = cells_short bodies; all = cells-are bodies } }
