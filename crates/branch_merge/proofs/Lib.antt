@@ -1,0 +1,13 @@
+pub mod Cells
+pub mod Upward
+pub mod Runs
+pub mod Adding
+pub mod Apart
+pub mod Gathering
+pub mod Holding
+pub mod Moving
+pub mod Lists
+pub mod Listings
+pub mod Shares
+pub mod Merging
+pub mod TrueTops

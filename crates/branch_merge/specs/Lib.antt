@@ -1,0 +1,4 @@
+pub mod Listing
+pub mod Tops
+pub mod Laws
+pub mod Merged
