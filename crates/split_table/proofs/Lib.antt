@@ -1,0 +1,5 @@
+pub mod Lines
+pub mod Parts
+pub mod Keyed
+pub mod AllBranches
+pub mod TopRecords

@@ -1,0 +1,11 @@
+use Rattle.std.proofs.Common.{◌≡◌, ◌<◌, map}
+use Rattle.hot_model.specs.World.{IsGood}
+use Rattle.hot_model.specs.Branches.{numbers_below, branch_records}
+use Rattle.work_split.specs.Splits.{world_of}
+use Rattle.split_table.proofs.lists.lists_of.Given as goal
+
+abbrev pub invariant-loop-q : goal.invariant-loop-q
+invariant-loop-q l = record {
+  lists : l.lists.items ≡ map (branch_records (world_of l.set l.ranks)) (numbers_below l.q);
+  good : 0 < l.q → IsGood (world_of l.set l.ranks);
+}

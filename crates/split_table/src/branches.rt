@@ -1,0 +1,35 @@
+// The branches of all ranks in one list.
+ghost use Rattle.std.specs.Prelude.{◌≡◌, map, ltb, IfOk};
+ghost use Rattle.std.specs.Ordering.{is_lt};
+ghost use Rattle.hot_model.specs.World.{World};
+ghost use Rattle.split_table.specs.Table.{branch_of, branch_cells};
+ghost use Rattle.split_table.specs.Steps.{AreLists, AreByKey};
+
+use branch_merge::{Listed, gathered};
+use hot_model::RecList;
+use std::alloc::{AllocError, Global};
+use std::cmp::Ordering;
+
+/// Which of two records comes first: by the key of its cell.
+fn by_key(a: &Listed, b: &Listed) -> Ordering
+    ensures { is_lt result ≡ ltb a.now.rec.key b.now.rec.key }
+{
+    a.rec.key.cmp(&b.rec.key)
+}
+
+/// The records by ascending key, by std's sort, which works in place.
+fn in_key_order(mut listed: Vec<Listed>) -> Vec<Listed>
+    ensures order { AreByKey listed.items result.items }
+{
+    listed.sort_unstable_by(by_key);
+    listed
+}
+
+/// The branches of all ranks by ascending key, each with its rank, from the branch lists.
+pub fn all_branches(alloc: Global, lists: &[RecList]) -> Result<Vec<Listed>, AllocError>
+    requires lists { (w : World) × AreLists w lists.now }
+    ensures value { IfOk result (λ v. (w : World) → AreLists w lists.now → v.items ≡ map (branch_of w) (branch_cells w)) }
+{
+    let listed = gathered(alloc, lists)?;
+    Ok(in_key_order(listed))
+}

@@ -1,0 +1,19 @@
+//! What a split over ranks shows: the share of each rank, the branches, and the top cells that all ranks share, and
+//! their text.
+#![tactic(auto)]
+
+mod branches;
+mod laws;
+mod line;
+mod lists;
+mod share;
+mod table;
+#[cfg(test)]
+mod tests;
+mod text;
+mod tops;
+
+pub use laws::cells_are_shown;
+pub use share::Share;
+pub use table::SplitTable;
+pub use text::split_text;
