@@ -28,8 +28,16 @@ def pick_value(rng, option):
     return rng.choice([*BAD, *rng.choice([*GOOD.values()]), "", " 1", "1 ", "a\nb"])
 
 
+def split_words(rng):
+    """The command `split`, mostly with a good number of ranks."""
+    ranks = rng.choice([str(rng.randint(1, 64)), "1", "2", "2", "3", "4", "5", "64", "064", "00000000000000000007"])
+    return ["split", "--ranks", ranks] if rng.random() < 0.95 else ["split"]
+
+
 def good_words(rng, command="forces"):
     """Words of a run that this stage has, or nearly."""
+    if command == "split":
+        return split_words(rng)
     words = []
     for option in rng.sample(["--theta", "--eps", "--leaf", "--ranks", "--mail", "--form"], rng.randint(0, 4)):
         here = option in ("--theta", "--eps", "--leaf")
@@ -42,8 +50,12 @@ def random_words(rng):
     if rng.random() < 0.05:
         return rng.choice([[], [""], ["--help"], ["--version"], ["-"], ["Forces"], ["forces "], ["hot", "forces"], ["weigh"]])
     words = [rng.choice([*COMMANDS, "forces", "forces", "forces"])]
-    pool = OPTIONS if rng.random() < 0.2 else OPTIONS[:6] + OPTIONS[8:] if words[0] == "forces" else OPTIONS
-    for _ in range(rng.choice([0, 1, 1, 2, 2, 3, 5])):
+    pool, count = OPTIONS, rng.choice([0, 1, 1, 2, 2, 3, 5])
+    if words[0] == "forces" and rng.random() < 0.8:
+        pool = OPTIONS[:6] + OPTIONS[8:]
+    elif words[0] == "split" and rng.random() < 0.8:
+        pool, count = ["--ranks"], rng.choice([0, 1, 1, 1, 2])
+    for _ in range(count):
         option = rng.choice(pool)
         words.append(option)
         if option != "--report":
@@ -74,5 +86,8 @@ def random_call(rng):
         "empty": b"",
     }
     files["./bodies.sdf"] = files["bodies.sdf"]
-    words = [*good_words(rng), rng.choice(NAMES)] if rng.random() < 0.35 else random_words(rng)
+    if rng.random() < 0.45:
+        words = [*good_words(rng, rng.choice(["forces", "forces", "forces", "split"])), rng.choice(NAMES)]
+    else:
+        words = random_words(rng)
     return Case("words", words, pick_file(own, 5).data(own), files)

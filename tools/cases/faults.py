@@ -1,6 +1,6 @@
 """Body files with something wrong: bytes or tokens of the header changed, limits passed, rows spoilt."""
 
-from cases.layouts import packed, pick_file
+from cases.layouts import bounds, packed, pick_file
 from reference.header import MAX_MASS
 
 BYTES = b"# \n\t\f\r/*\"{}[];=,+-.0123456789exX_aZ\x00\x7f\xff"
@@ -160,7 +160,7 @@ def spoilt_rows(rng):
         if k:
             name = rng.choice(names if rng.random() < 0.3 else names[3:] or names)
             _, size, signed = file.offset(name)
-            low, high = (-(2 ** (8 * size - 1)), 2 ** (8 * size - 1) - 1) if signed else (0, 2 ** (8 * size) - 1)
+            low, high = bounds(size, signed)
             wanted = [0, -1, 1, MAX_MASS, MAX_MASS + 1, 2**32 - 1, 2**32, low, high, rng.randint(low, high)]
             file.put(rng.randrange(k), name, min(high, max(low, rng.choice(wanted))))
     data = file.data(rng)

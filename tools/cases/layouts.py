@@ -21,6 +21,11 @@ WHOLE = {
     "uint64_t": (8, False),
 }
 OTHER = {"char": 1, "float": 4, "double": 8}
+COUNTS = [0, 1, 2, 3, 5, 9, 10, 17, 25, 40]
+
+
+def bytes_of(kind):
+    return WHOLE[kind][0] if kind in WHOLE else OTHER[kind]
 
 
 @dataclass
@@ -44,7 +49,7 @@ class File:
         """Where a column stands in a row, and its bytes and sign."""
         at = 0
         for own, kind, length in self.columns:
-            size = WHOLE[kind][0] if kind in WHOLE else OTHER[kind]
+            size = bytes_of(kind)
             if own == name:
                 return at, size, WHOLE[kind][1]
             at += size * max(1, length)
@@ -91,25 +96,28 @@ def pick_axis(rng, kind, bits):
 
 
 def pick_places(rng, count, axes):
-    """Bodies in a few clusters of some width, as coordinates."""
+    """Bodies in a few clusters of some width, or each in some cell around an earlier one, as coordinates."""
     width = rng.choice([0, 1, 2, 4, 16, 64, 1024, 65536, 1 << 29])
     centres = [[rng.randint(least, most) for _, least, most in axes] for _ in range(rng.randint(1, 3))]
+    bits = max(most for _, _, most in axes).bit_length()
+    is_tree = rng.random() < 0.4
     places = []
     for _ in range(count):
-        centre = rng.choice(centres)
-        gaps = [
-            min(most, max(least, c + rng.randint(-width, width))) for c, (_, least, most) in zip(centre, axes)
-        ]
-        places.append([gap + axis[0] for gap, axis in zip(gaps, axes)])
-    return places
+        if is_tree and places:
+            low = rng.randint(0, bits)
+            place = [gap >> low << low | rng.getrandbits(low) for gap in rng.choice(places)]
+        else:
+            place = [gap + rng.randint(-width, width) for gap in rng.choice(centres)]
+        places.append([min(most, max(least, gap)) for gap, (_, least, most) in zip(place, axes)])
+    return [[gap + corner for gap, (corner, _, _) in zip(place, axes)] for place in places]
 
 
-def pick_columns(rng):
-    """The columns of a file: those that count, and others between them."""
+def pick_columns(rng, work):
+    """The columns of a file: those that count, and others between them; `work` is the chance of that column."""
     columns = [(axis, pick_type(rng), 0) for axis in "xyz"]
     if rng.random() < 0.2:
         columns = [(axis, columns[0][1], 0) for axis in "xyz"]
-    for name, chance in (("mass", 0.6), ("ident", 0.5), ("work", 0.4)):
+    for name, chance in (("mass", 0.6), ("ident", 0.5), ("work", work)):
         if rng.random() < chance:
             length = rng.randint(1, 4) if rng.random() < 0.1 else 0
             columns.append((name, pick_type(rng) if not length else rng.choice([*WHOLE, *OTHER]), length))
@@ -173,7 +181,7 @@ def header_tokens(rng, columns, count, numbers):
 
 def pick_cell(rng, name, kind, length):
     """The value of a column that is no coordinate, as a number or as bytes."""
-    size = WHOLE[kind][0] if kind in WHOLE else OTHER[kind]
+    size = bytes_of(kind)
     if kind not in WHOLE or length or name not in ("mass", "ident", "work"):
         return rng.randbytes(size * max(1, length))
     low, high = bounds(*WHOLE[kind])
@@ -196,9 +204,9 @@ def pick_rows(rng, columns, axes, count, most_first):
     return rows
 
 
-def pick_file(rng, most_rows=40):
+def pick_file(rng, most_rows=40, counts=COUNTS, work=0.4):
     """A good body file."""
-    columns = pick_columns(rng)
+    columns = pick_columns(rng, work)
     kinds = {name: kind for name, kind, _ in columns}
     numbers = {}
     bits = rng.choice([21, rng.randint(1, 29), rng.randint(1, 29)])
@@ -214,7 +222,7 @@ def pick_file(rng, most_rows=40):
     if rng.random() < 0.5:
         has_mass = any(name == "mass" and not length for name, _, length in columns)
         numbers["mass"] = rng.choice([0, -5, 1 << 40]) if has_mass else rng.randint(1, MAX_MASS)
-    count = min(most_rows, rng.choice([0, 1, 2, 3, 5, 9, 10, 17, 25, 40]))
+    count = min(most_rows, rng.choice(counts))
     front = rng.choice([b"# SDF\n", b"# SDF 1.0\n", b"# SDF\r\n", b"# SDFx\xff\n", b"# SDF\n#\f\n#\n"])
     end = rng.choice([b"# SDF-EOH\n", b"# SDF-EOH\n", b"#SDF-EOH\n", b"# \f SDF-EOHs\r\n", b"#\xfeSDF-EOH SDF-EOH\n"])
     tokens = header_tokens(rng, columns, count, numbers)

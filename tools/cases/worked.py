@@ -47,6 +47,20 @@ def forces(*lines):
     return "".join(f"{line}\n" for line in ["# hot forces 1", *lines, f"# end {len(lines)}"])
 
 
+def split(*lines):
+    return "".join(f"{line}\n" for line in ["# hot split 1", *lines, "# end split"])
+
+
+def rank_lines(*numbers):
+    """The lines of ranks with these numbers of bodies, weight and branches."""
+    return [f"rank {q} bodies {n} weight {w} branches {b}" for q, (n, w, b) in enumerate(numbers)]
+
+
+def corner_tops(upto, record):
+    """The lines of the top cells at the corner of the cube, from the root to this level, with one record."""
+    return [f"top {8**level} {record}" for level in range(upto + 1)]
+
+
 def converter_rows(floats):
     first = struct.pack("<3i", -1048576, -1048576, -1048576) + floats[:12] + struct.pack("<q", 900) + floats[:8]
     second = struct.pack("<3i", -1048572, -1048576, -1048576) + floats[4:16] + struct.pack("<q", 17) + floats[8:16]
@@ -70,6 +84,34 @@ FINE_HEAD = b"# SDF\nint cube_bits = 29;\nstruct {int32_t x, y, z, mass;}[];\n# 
 CELL = struct.pack("<8i", 1024, 0, 0, 4194304, 1280, 256, 256, 4194304)
 AT_SIDE = FINE_HEAD + struct.pack("<4i", 640, 128, 128, 1) + CELL
 PAST_SIDE = FINE_HEAD + struct.pack("<4i", 639, 128, 128, 1) + CELL
+
+# A cube of 29 bits: the first two bodies share a cell of the last level, the third has one beside it
+SHARED = FINE_HEAD + struct.pack("<12i", 0, 0, 0, 1, 255, 255, 255, 2, 256, 0, 0, 4)
+
+# Bodies in the cells 15, 79, 8, 12 and 72: by key they stand in the order 8, 72, 79, 12, 15
+TREE_PLACES = [(1 << 20, 1 << 20, 1 << 20), (1 << 19, 1 << 19, 3 << 19), (1, 2, 3), (1 << 20, 0, 0), (0, 0, 1 << 20)]
+TREE_RECORDS = {
+    8: "count 1 mass 1 sum 256 512 768",
+    72: "count 1 mass 2 sum 0 0 536870912",
+    79: "count 1 mass 4 sum 536870912 536870912 1610612736",
+    9: "count 2 mass 6 sum 536870912 536870912 2147483648",
+    12: "count 1 mass 8 sum 2147483648 0 0",
+    15: "count 1 mass 16 sum 4294967296 4294967296 4294967296",
+    1: "count 5 mass 31 sum 6979322112 4831838720 6442451712",
+}
+
+
+def tree_file(works):
+    """The bodies of that tree with the masses 16, 4, 1, 8 and 2, and these works."""
+    rows = [(*place, mass, work) for place, mass, work in zip(TREE_PLACES, (16, 4, 1, 8, 2), works)]
+    return file_of("int32_t x, y, z, mass; uint32_t work;", *rows)
+
+
+def tree_text(ranks, branches, tops):
+    """The text for that tree: the lines of ranks, the owner of each branch cell, and the top cells."""
+    owners = [f"branch {cell} rank {rank} {TREE_RECORDS[cell]}" for cell, rank in branches.items()]
+    return split(*ranks, *owners, *(f"top {cell} {TREE_RECORDS[cell]}" for cell in tops))
+
 
 NO_NUMBERS = "1.5.2 0x1.5 1_ 1e 1e+ . .e5 + - 0x 0xg 00x1 12a --1 +-1 1..2 -9223372036854775809".split()
 NUMBERS = "5. .5 5.e3 -.5E-2 0X1f +0x1E 1e99999 -9223372036854775808 18446744073709551615 0000000000000000000000001".split()
@@ -100,9 +142,9 @@ GOOD_VALUES = {
     "--mail": ["prompt"],
     "--form": ["text"],
 }
-LATER = """split;split nowhere;split --ranks 64;make;make --bodies 262144 --seed 18446744073709551615;sample --leaf 1;forces --ranks 2
-forces --ranks 64;forces --mail last;forces --mail single;forces --mail 0;forces --mail 18446744073709551615
-forces --form sdf;forces --report;forces --report nowhere""".replace("\n", ";").split(";")
+LATER = """make;make --bodies 262144 --seed 18446744073709551615;sample --leaf 1;sample --ranks 2
+forces --ranks 2;forces --ranks 64;forces --mail last;forces --mail single;forces --mail 0
+forces --mail 18446744073709551615;forces --form sdf;forces --report;forces --report nowhere""".replace("\n", ";").split(";")
 WORK = "# SDF\nint mass = 3; struct {int8_t x, y, z; int64_t work;}[1];\n# SDF-EOH\n".encode() + b"\0\0\0"
 
 # words, standard input, status, output or text of refusal
@@ -256,9 +298,203 @@ WORKED = [
     ("forces", WORK + b"\xff" * 8, 3, "B5 row 0 work out of range"),
 ]
 
+FOUR = file_of("int32_t x, y, z, work;", *((k, 0, 0, 0) for k in range(4)))
+HALVES = file_of(MASS, (0, 0, 0, 1), (1048576, 0, 0, 2))
+LAST_LIGHT = file_of("int32_t x, y, z, work;", (0, 0, 0, 1), (1048576, 0, 0, 0))
+POINT = file_of("int32_t x, y, z, work;", (5, 6, 7, 0), (5, 6, 7, 0), (5, 6, 7, 5))
+ROW_OF_THREE = file_of(BARE, (0, 0, 0), (1, 0, 0), (2, 0, 0))
+PAIRS = file_of(
+    MASS,
+    (1 << 20, 0, 0, 4),
+    (1 << 18, 1 << 18, 5 << 18, 2),
+    (3 << 19, 1 << 19, 1 << 19, 8),
+    (0, 0, 1 << 20, 1),
+)
+HEAVIEST = -1  # 2^32 - 1 in an unsigned column of 32 bits
+
+# words, standard input, status, output or text of refusal
+WORKED_SPLITS = [
+    (
+        "split --ranks 2",
+        FOUR,
+        0,
+        split(
+            *rank_lines((2, 2, 1), (2, 2, 1)),
+            "branch 1152921504606846976 rank 0 count 2 mass 2 sum 256 0 0",
+            "branch 1152921504606846980 rank 1 count 2 mass 2 sum 1280 0 0",
+            *corner_tops(19, "count 4 mass 4 sum 1536 0 0"),
+        ),
+    ),
+    (
+        "split --ranks 2",
+        HALVES,
+        0,
+        """# hot split 1
+rank 0 bodies 1 weight 1 branches 1
+rank 1 bodies 1 weight 1 branches 1
+branch 8 rank 0 count 1 mass 1 sum 0 0 0
+branch 12 rank 1 count 1 mass 2 sum 536870912 0 0
+top 1 count 2 mass 3 sum 536870912 0 0
+# end split
+""",
+    ),
+    *[
+        (
+            "split --ranks 2",
+            data,
+            0,
+            split(
+                *rank_lines((1, 1, 1), (1, 1, 1)),
+                "branch 144115188075855872 rank 0 count 1 mass 1 sum 0 0 0",
+                "branch 144115188075855876 rank 1 count 1 mass 3 sum 3072 0 0",
+                *corner_tops(18, "count 2 mass 4 sum 3072 0 0"),
+            ),
+        )
+        for data in (TWO, TWO_MOST)
+    ],
+    # A body whose lower weight is all of it is on the last rank
+    (
+        "split --ranks 2",
+        LAST_LIGHT,
+        0,
+        split(
+            *rank_lines((1, 1, 1), (1, 0, 1)),
+            "branch 8 rank 0 count 1 mass 1 sum 0 0 0",
+            "branch 12 rank 1 count 1 mass 1 sum 268435456 0 0",
+            "top 1 count 2 mass 2 sum 268435456 0 0",
+        ),
+    ),
+    # Equal keys share a rank
+    (
+        "split --ranks 2",
+        POINT,
+        0,
+        split(*rank_lines((3, 5, 1), (0, 0, 0)), "branch 1 rank 0 count 3 mass 3 sum 3840 4608 5376"),
+    ),
+    (
+        "split --ranks 3",
+        SHARED,
+        0,
+        split(
+            *rank_lines((2, 2, 1), (0, 0, 0), (1, 1, 1)),
+            "branch 9223372036854775808 rank 0 count 2 mass 3 sum 510 510 510",
+            "branch 9223372036854775812 rank 2 count 1 mass 4 sum 1024 0 0",
+            *corner_tops(20, "count 3 mass 7 sum 1534 510 510"),
+        ),
+    ),
+    # The bodies are on ranks 0, 21 and 42
+    *[
+        (
+            f"split --ranks {ranks}",
+            ROW_OF_THREE,
+            0,
+            split(
+                *rank_lines(*((1, 1, 1) if rank in (0, 21, 42) else (0, 0, 0) for rank in range(64))),
+                "branch 1152921504606846980 rank 42 count 1 mass 1 sum 512 0 0",
+                "branch 9223372036854775808 rank 0 count 1 mass 1 sum 0 0 0",
+                "branch 9223372036854775812 rank 21 count 1 mass 1 sum 256 0 0",
+                *corner_tops(19, "count 3 mass 3 sum 768 0 0"),
+                "top 1152921504606846976 count 2 mass 2 sum 256 0 0",
+            ),
+        )
+        for ranks in ("64", "00000000000000000064")
+    ],
+    ("split", file_of(BARE), 0, split("rank 0 bodies 0 weight 0 branches 0")),
+    ("split --ranks 3", file_of(BARE), 0, split(*rank_lines((0, 0, 0), (0, 0, 0), (0, 0, 0)))),
+    *[
+        (words, HALVES, 0, split(*rank_lines((2, 2, 1)), "branch 1 rank 0 count 2 mass 3 sum 536870912 0 0"))
+        for words in ("split", "split -", "split --ranks 1", "split --ranks 01 -")
+    ],
+    # Branches of three ranks and two levels by ascending key
+    *[
+        (
+            "split --ranks 3",
+            tree_file([work] * 5),
+            0,
+            tree_text(rank_lines((2, 2, 2), (2, 2, 2), (1, 1, 1)), {8: 0, 12: 1, 15: 2, 72: 0, 79: 1}, [1, 9]),
+        )
+        for work in (0, 1)
+    ],
+    (
+        "split --ranks 3",
+        tree_file([HEAVIEST] * 5),
+        0,
+        tree_text(
+            rank_lines((2, 8589934590, 2), (2, 8589934590, 2), (1, 4294967295, 1)),
+            {8: 0, 12: 1, 15: 2, 72: 0, 79: 1},
+            [1, 9],
+        ),
+    ),
+    # Half of the weight in cell 8, half in cell 15: the others are on rank 1 with the latter
+    (
+        "split --ranks 3",
+        tree_file((3, 0, 3, 0, 0)),
+        0,
+        tree_text(rank_lines((1, 3, 1), (4, 3, 3), (0, 0, 0)), {8: 0, 9: 1, 12: 1, 15: 1}, [1]),
+    ),
+    # A heavy body in cell 79: behind it all are on the last rank, before it on the first
+    (
+        "split --ranks 64",
+        tree_file((0, HEAVIEST, 0, 0, 0)),
+        0,
+        tree_text(
+            rank_lines((3, 4294967295, 2), *[(0, 0, 0)] * 62, (2, 0, 2)),
+            {8: 0, 9: 0, 12: 63, 15: 63},
+            [1],
+        ),
+    ),
+    # Two pairs, in the cells 12 and 72, each parted between two ranks: top cells of several levels by ascending key
+    (
+        "split --ranks 4",
+        PAIRS,
+        0,
+        split(
+            *rank_lines((1, 1, 1), (1, 1, 1), (1, 1, 1), (1, 1, 1)),
+            "branch 96 rank 2 count 1 mass 4 sum 1073741824 0 0",
+            "branch 103 rank 3 count 1 mass 8 sum 3221225472 1073741824 1073741824",
+            "branch 576 rank 0 count 1 mass 1 sum 0 0 268435456",
+            "branch 583 rank 1 count 1 mass 2 sum 134217728 134217728 671088640",
+            "top 1 count 4 mass 15 sum 4429185024 1207959552 2013265920",
+            "top 9 count 2 mass 3 sum 134217728 134217728 939524096",
+            "top 12 count 2 mass 12 sum 4294967296 1073741824 1073741824",
+            "top 72 count 2 mass 3 sum 134217728 134217728 939524096",
+        ),
+    ),
+    ("split --ranks", b"", 2, "A4 no value for --ranks"),
+    ("split --ranks 2 --ranks", b"", 2, "A5 option given twice --ranks"),
+    ("split --ranks 2 --ranks 2", b"", 2, "A5 option given twice --ranks"),
+    ("split a b", b"", 2, "A7 extra word a"),
+    ("split a --ranks 2", b"", 2, "A7 extra word a"),
+    *[
+        (["split", "--ranks", value], b"", 2, f"A6 bad value {value} for --ranks")
+        for value in ("0", "65", "-1", "", "2.0", "18446744073709551617", "000000000000000000001", "--ranks")
+    ],
+    *[
+        (f"split {option} 1/1", b"", 2, f"A3 unknown option {option}")
+        for option in ("--theta", "--eps", "--leaf", "--mail", "--form", "--report", "--bodies", "--seed")
+    ],
+    ("split nowhere", b"", 4, "read fault"),
+    (["split", ""], HALVES, 4, "read fault"),
+    ("split", b"", 3, "H1 not an SDF file"),
+    ("split", b"# SDF", 3, "H3 header has no end"),
+    ("split --ranks 64", FLOAT_X, 3, "H11 column x is not whole"),
+    ("split", file_of(BARE, count=262145), 3, "H13 too many rows 262145"),
+    ("split --ranks 2", TWO[:-1], 3, "B1 row 1 is cut short"),
+    ("split --ranks 2", TWO + b"\0", 3, "B2 bytes after the last row"),
+    ("split", file_of(BARE, (2097151, 0, 0), (2097152, 0, 0)), 3, "B3 row 1 outside the cube on x"),
+    ("split", file_of(MASS, (0, 0, 0, 0)), 3, "B4 row 0 mass out of range"),
+    ("split", WORK + b"\xff" * 8, 3, "B5 row 0 work out of range"),
+    (
+        "split",
+        WORK + (2**32 - 1).to_bytes(8, "little"),
+        0,
+        split(*rank_lines((1, 4294967295, 1)), "branch 1 rank 0 count 1 mass 3 sum 0 0 0"),
+    ),
+]
+
 
 def worked():
     """Each worked case: words, standard input, and the three answers."""
-    for words, data, status, told in WORKED:
+    for words, data, status, told in [*WORKED, *WORKED_SPLITS]:
         out, err = (told, "") if status == 0 else ("", f"hot: {told}\n")
         yield words.split() if isinstance(words, str) else words, data, (status, out.encode(), err.encode())

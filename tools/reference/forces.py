@@ -2,25 +2,7 @@
 
 import math
 
-LEVELS = 21
-FINE_BITS = 29
-
-
-def key_of(place):
-    x, y, z = place
-    key = 1
-    for level in range(1, LEVELS + 1):
-        bit = FINE_BITS - level
-        key = 8 * key + 4 * (x >> bit & 1) + 2 * (y >> bit & 1) + (z >> bit & 1)
-    return key
-
-
-def level_of(cell):
-    return (cell.bit_length() - 1) // 3
-
-
-def contains(cell, key):
-    return key >> 3 * (LEVELS - level_of(cell)) == cell
+from reference.keys import FINE_BITS, LEVELS, contains, key_of, level_of
 
 
 def pull(p, c, mass, eps):

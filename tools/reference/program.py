@@ -3,6 +3,7 @@
 from reference.forces import forces_text
 from reference.header import Refused
 from reference.rows import bodies
+from reference.split import split_text
 from reference.words import is_of_later, read
 
 
@@ -34,7 +35,10 @@ def prepared(words, stdin, files, broken):
         return (4, b"", line("read fault")) if fails and not is_decided(refused, data) else (3, b"", line(refused))
     if fails:
         return 4, b"", line("read fault")
-    text = forces_text(found, options["--eps"], options["--theta"], options["--leaf"])
+    if command == "split":
+        text = split_text(found, options["--ranks"])
+    else:
+        text = forces_text(found, options["--eps"], options["--theta"], options["--leaf"])
     return 0, text.encode(), b""
 
 

@@ -3,8 +3,8 @@
 from dataclasses import dataclass
 
 from reference.header import MAX_MASS, MAX_ROWS, Refused, layout
+from reference.keys import FINE_BITS
 
-FINE_BITS = 29
 MAX_WORK = 2**32 - 1
 
 
@@ -13,6 +13,7 @@ class Body:
     place: tuple  # fine coordinates
     mass: int
     ident: int
+    work: int  # the weight in the split over ranks
 
 
 def number(row, column, most_first):
@@ -37,9 +38,10 @@ def body(form, k, row):
     mass = value("mass", form.mass)
     if not 1 <= mass <= MAX_MASS:
         raise Refused(f"B4 row {k} mass out of range")
-    if not 0 <= value("work", 1) <= MAX_WORK:
+    work = value("work", 1)
+    if not 0 <= work <= MAX_WORK:
         raise Refused(f"B5 row {k} work out of range")
-    return Body(tuple(place), mass, value("ident", k))
+    return Body(tuple(place), mass, value("ident", k), work)
 
 
 def bodies(data):

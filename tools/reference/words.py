@@ -88,6 +88,8 @@ def read(words):
 
 def is_of_later(command, options):
     """Whether the words ask for what is not built yet."""
+    if command == "split":
+        return False
     return (
         command != "forces"
         or options["--ranks"] > 1

@@ -3,9 +3,10 @@
 Usage: tools/check [--program PATH | --try] [--cases N] [--seed S]
 
 The cases are those worked by hand, files at the limits, streams that fail, and N random ones: body files of every
-layout, changed headers, spoilt rows, and lists of words. Output, error stream and status are compared. The program is
-the built one, which `./hot` builds where it is not built yet; with --try it is the same source without proof (`rt
-try`), over N of all these cases that take no file, no stream that fails and no odd word. N is 600, and 60 with --try.
+layout, trees cut on many ranks, changed headers, spoilt rows, and lists of words. Output, error stream and status are
+compared. The program is the built one, which `./hot` builds where it is not built yet; with --try it is the same source
+without proof (`rt try`), over N of all these cases that take no file, no stream that fails and no odd word. N is 900,
+and 60 with --try.
 """
 
 import argparse
@@ -25,6 +26,7 @@ from cases import Case
 from cases.calls import good_words, random_call
 from cases.faults import long_header, mutated_header, plain_file, spoilt_rows, wide_header
 from cases.layouts import pick_file
+from cases.splits import split_case
 from cases.worked import worked
 from reference.program import answer
 from unproved import can_try, run_unproved
@@ -36,10 +38,12 @@ BUILT = os.path.join(TOP, "crates", "hot", "out", "hot")
 
 def random_case(rng):
     """A random case, of a kind by its share."""
-    kinds = {"layout": 35, "header": 30, "wide": 4, "long": 3, "rows": 15, "words": 25}
+    kinds = {"layout": 35, "split": 55, "header": 30, "wide": 4, "long": 3, "rows": 15, "words": 25}
     kind = rng.choices([*kinds], [*kinds.values()])[0]
     if kind == "words":
         return random_call(rng)
+    if kind == "split":
+        return split_case(rng)
     make = {
         "layout": lambda rng: pick_file(rng).data(rng),
         "header": mutated_header,
@@ -47,7 +51,8 @@ def random_case(rng):
         "long": long_header,
         "rows": spoilt_rows,
     }[kind]
-    return Case(kind, good_words(rng), make(rng))
+    command = "split" if kind != "layout" and rng.random() < 0.25 else "forces"
+    return Case(kind, good_words(rng, command), make(rng))
 
 
 def stream_cases(rng):
@@ -61,12 +66,18 @@ def stream_cases(rng):
         Case("full", ["forces", "-h"], full="err"),
         Case("full", ["force"], full="err"),
         Case("full", ["make"], full="out"),
+        Case("full", ["split", "--ranks", "2"], good, full="out"),
+        Case("full", ["split", "--ranks", "2"], good, full="err"),
+        Case("full", ["split"], cut, full="out"),
+        Case("full", ["split"], cut, full="err"),
+        Case("full", ["split", "--ranks", "0"], good, full="err"),
     ]
     whole = [*(data for _, data, _ in worked()), *(spoilt_rows(rng) for _ in range(20))]
     for data in [b"# SDX", good + b"\0", *(mutated_header(rng) for _ in range(20)), *whole]:
         if len(data) <= MAX_BROKEN:
-            cases.append(Case("broken", ["forces"], data, broken=True))
-            cases.append(Case("broken", ["forces"], data[: rng.randint(0, len(data))], broken=True))
+            words = ["split"] if rng.random() < 0.25 else ["forces"]
+            cases.append(Case("broken", words, data, broken=True))
+            cases.append(Case("broken", words, data[: rng.randint(0, len(data))], broken=True))
     return cases
 
 
@@ -74,7 +85,10 @@ def limit_cases(rng):
     """Files about the limit of rows, with a stated count and without."""
     files = [(262145, ""), (262145, "262144"), (262143, "262144"), (262145, "262145"), (400, "")]
     cases = [Case("limit", ["forces"], plain_file(rng, rows, "x,y,z", count)) for rows, count in files]
-    return [*cases, Case("limit", ["forces"], cases[0].stdin[:-1])]
+    cases.append(Case("limit", ["forces"], cases[0].stdin[:-1]))
+    head = b"# SDF\nint cube_bits = 4;\nstruct {int8_t x, y, z;}[];\n# SDF-EOH\n"
+    spread = bytes(rng.randrange(16) for _ in range(3 * 262144))
+    return [*cases, Case("limit", ["split", "--ranks", "64"], head + spread)]
 
 
 @contextlib.contextmanager
@@ -146,7 +160,7 @@ def main():
     parser.add_argument("--cases", type=int)
     parser.add_argument("--seed", type=int, default=1)
     options = parser.parse_args()
-    count = options.cases or (60 if options.unproved else 600)
+    count = options.cases or (60 if options.unproved else 900)
     begin = time.monotonic()
     print(f"seed {options.seed}", flush=True)
     pairs = gather(random.Random(options.seed), count)
