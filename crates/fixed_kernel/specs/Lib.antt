@@ -3,3 +3,4 @@ pub mod Visit
 pub mod Laws
 pub mod Tried
 pub mod Additions
+pub mod Between

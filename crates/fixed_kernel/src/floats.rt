@@ -77,6 +77,18 @@ pub fn hint_root(high: u64, low: u64) -> u64 {
     ))
 }
 
+/// The hint for 2^94 over the root of a number from 2^62. The factor is a little too small, since a hint that is too large
+/// is not taken. A number of at most 2^51 stands in the last bits of its sum with 2^52.
+#[inline(always)]
+pub fn hint_inverse_root(n: u64) -> u64 {
+    let raised = 106854955625126008193024.0 / ((n >> 11) as f64).sqrt() + FLOAT_TWO_52;
+    if raised < FLOAT_TWO_53 {
+        raised.to_bits() << 12
+    } else {
+        0
+    }
+}
+
 /// The hints for the pull of a mass. The factors are a little too large, since a quotient that is whole is not to be missed.
 #[inline(always)]
 pub fn hint_pull(x: u32, y: u32, z: u32, soft: u64, mass: u64) -> PullHints

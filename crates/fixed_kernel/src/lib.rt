@@ -2,6 +2,7 @@
 //! pulls up. Nothing here takes memory. Roots, centres and the sizes of pulls are rounded down.
 #![tactic(auto)]
 
+mod bounds;
 mod distance;
 mod floats;
 mod laws;

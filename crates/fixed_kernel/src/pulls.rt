@@ -1,11 +1,13 @@
-// The pull of a mass: quotients that are guessed and tested, and a division where a guess fails.
-ghost use Rattle.std.specs.Prelude.{IsTrue, ◌↔◌, ◌-◌, ◌≡◌, ◌/◌, ◌≤◌, ◌<◌, ◌^◌, ◌*◌};
+// The pull of a mass. Where bounds of it have the same quotients, these are it. Elsewhere quotients are guessed and tested,
+// and there is a division where a guess fails.
+ghost use Rattle.std.specs.Prelude.{IfSome, IsTrue, ◌↔◌, ◌-◌, ◌≡◌, ◌/◌, ◌≤◌, ◌<◌, ◌^◌, ◌*◌};
 ghost use Rattle.hot_model.specs.Limits.{fine_bits, max_all_mass};
 ghost use Rattle.hot_model.specs.Kernel as kernel;
 ghost use Rattle.hot_model.specs.Kernel.{point_at, components, InCube, IsPullBy};
 ghost use Rattle.fixed_kernel.specs.Tried.{MayTry};
 
 use crate::Eps;
+use crate::bounds::bound_pull;
 use crate::distance::distance2;
 use crate::floats::{PullHints, hint_pull};
 use crate::roots::root_by;
@@ -73,7 +75,7 @@ fn dividend(p: u32, c: u32, mass: u64) -> u128
 /// One component of the pull, by its size.
 #[inline(always)]
 fn toward(p: u32, c: u32, size: u64) -> i128
-    requires { size < 2 ^ 51 }
+    requires { size < 2 ^ 63 }
     ensures { result ≡ kernel.toward p c size }
 {
     let size = size as i64;
@@ -152,6 +154,91 @@ fn divisor(soft: u64, hint: u64) -> u128
     soft * root_by(soft * (1 << 20), hint)
 }
 
+/// The pull where its bounds have the same quotients.
+#[inline(always)]
+fn certain_pull(p: [u32; 3], c: [u32; 3], mass: u64, soft: u64) -> Option<[i128; 3]>
+    requires p_in { InCube p }
+    requires c_in { InCube c }
+    requires above { 0 < soft }
+    ensures { IfSome result (λ r. r ≡ components (kernel.pull_over (soft * kernel.root (soft * 2 ^ 20)) (point_at p) (point_at c) mass)) }
+{
+    let of = bound_pull(soft, mass)?;
+    let dx = u64::from(p[0].abs_diff(c[0]));
+    let dy = u64::from(p[1].abs_diff(c[1]));
+    let dz = u64::from(p[2].abs_diff(c[2]));
+    let x = of.low * dx;
+    let y = of.low * dy;
+    let z = of.low * dz;
+    let differ = (x ^ (of.high * dx)) | (y ^ (of.high * dy)) | (z ^ (of.high * dz));
+    if differ >> of.shift != 0 {
+        return None;
+    }
+    Some([
+        toward(p[0], c[0], x >> of.shift),
+        toward(p[1], c[1], y >> of.shift),
+        toward(p[2], c[2], z >> of.shift),
+    ])
+}
+
+/// The pull where its bounds do not decide it, as where a body meets itself.
+#[cold]
+#[inline(never)]
+fn settled_pull(
+    x: u32,
+    y: u32,
+    z: u32,
+    at_x: u32,
+    at_y: u32,
+    at_z: u32,
+    mass: u64,
+    soft: u64,
+) -> [i128; 3]
+    requires x_in { x < 2 ^ fine_bits }
+    requires y_in { y < 2 ^ fine_bits }
+    requires z_in { z < 2 ^ fine_bits }
+    requires at_x_in { at_x < 2 ^ fine_bits }
+    requires at_y_in { at_y < 2 ^ fine_bits }
+    requires at_z_in { at_z < 2 ^ fine_bits }
+    requires mass_in { mass ≤ max_all_mass }
+    requires above { 0 < soft }
+    requires within { soft < 2 ^ 60 }
+    ensures { result ≡ components (kernel.pull_over (soft * kernel.root (soft * 2 ^ 20)) (record { x = x; y = y; z = z }) (record { x = at_x; y = at_y; z = at_z }) mass) }
+{
+    if x == at_x && y == at_y && z == at_z {
+        return [0, 0, 0];
+    }
+    let hints = hint_pull(
+        x.abs_diff(at_x),
+        y.abs_diff(at_y),
+        z.abs_diff(at_z),
+        soft,
+        mass,
+    );
+    pull_by(
+        [x, y, z],
+        [at_x, at_y, at_z],
+        mass,
+        divisor(soft, hints.root),
+        hints,
+    )
+}
+
+/// The pull at a softened squared distance.
+#[inline(always)]
+fn pull_at(p: [u32; 3], c: [u32; 3], mass: u64, soft: u64) -> [i128; 3]
+    requires p_in { InCube p }
+    requires c_in { InCube c }
+    requires mass_in { mass ≤ max_all_mass }
+    requires above { 0 < soft }
+    requires within { soft < 2 ^ 60 }
+    ensures { result ≡ components (kernel.pull_over (soft * kernel.root (soft * 2 ^ 20)) (point_at p) (point_at c) mass) }
+{
+    match certain_pull(p, c, mass, soft) {
+        Some(pull) => pull,
+        None => settled_pull(p[0], p[1], p[2], c[0], c[1], c[2], mass, soft),
+    }
+}
+
 /// The pull of a mass at `c` on a body at `p`, by gravity with Plummer softening: each component is
 /// `mass * |c - p| * 2^50 / (r2 * s)`, rounded down in size, with the sign of `c - p`. Here `r2` is the squared distance
 /// plus the square of `eps`, and `s` the root of `r2 * 2^20`, rounded down.
@@ -172,13 +259,6 @@ pub fn pull(p: [u32; 3], c: [u32; 3], mass: u64, eps: Eps) -> [i128; 3]
     if mass < soft >> 40 {
         [0, 0, 0]
     } else {
-        let hints = hint_pull(
-            p[0].abs_diff(c[0]),
-            p[1].abs_diff(c[1]),
-            p[2].abs_diff(c[2]),
-            soft,
-            mass,
-        );
-        pull_by(p, c, mass, divisor(soft, hints.root), hints)
+        pull_at(p, c, mass, soft)
     }
 }

@@ -2,6 +2,7 @@ ghost use Rattle.std.specs.Prelude.{◌<◌};
 
 use crate::{Eps, ForceVisit, Ratio, accepts, centre, pull, root};
 use hot_model::{Body, CellRec, Seen, Visit, body_of};
+use std::process::Abort;
 use std::test::Fail;
 
 #[test]
@@ -54,9 +55,27 @@ fn limits(rt: HostRuntime) {
 /// A body at a place, which pulls with a mass.
 type Place = (u32, u32, u32);
 
+/// A body, the place of a mass, the mass, the softening, and the pull on the body.
+type Pull = (Place, Place, u64, u32, [i128; 3]);
+
+/// The pulls are as stated.
+fn pulls_are(rt: &impl Abort, cases: &[Pull]) -> Result<(), Fail> {
+    for &(on, at, mass, eps, expected) in cases {
+        let on = body_of(on.0, on.1, on.2, 1, 0).ok_or("a place")?;
+        let at = body_of(at.0, at.1, at.2, 1, 1).ok_or("a place")?;
+        let eps = Eps::new(eps).ok_or("a softening")?;
+        let mass = mass.min(1099511627776);
+        assert_eq!(rt;
+            pull([on.x, on.y, on.z], [at.x, at.y, at.z], mass, eps),
+            expected
+        );
+    }
+    Ok(())
+}
+
 #[test]
 fn pulls(rt: HostRuntime) -> Result<(), Fail> {
-    let cases: [(Place, Place, u64, u32, [i128; 3]); 9] = [
+    let cases: [Pull; 9] = [
         ((0, 0, 0), (1024, 0, 0), 3, 1, [3145725, 0, 0]),
         ((1024, 0, 0), (0, 0, 0), 1, 1, [-1048575, 0, 0]),
         ((0, 0, 0), (256, 512, 512), 1, 1, [621377, 1242754, 1242754]),
@@ -91,17 +110,78 @@ fn pulls(rt: HostRuntime) -> Result<(), Fail> {
             [232739244084485857285039, -232739244084485857285039, 0],
         ),
     ];
-    for &(on, at, mass, eps, expected) in &cases {
-        let on = body_of(on.0, on.1, on.2, 1, 0).ok_or("a place")?;
-        let at = body_of(at.0, at.1, at.2, 1, 1).ok_or("a place")?;
-        let eps = Eps::new(eps).ok_or("a softening")?;
-        let mass = mass.min(1099511627776);
-        assert_eq!(rt;
-            pull([on.x, on.y, on.z], [at.x, at.y, at.z], mass, eps),
-            expected
-        );
-    }
-    Ok(())
+    pulls_are(&rt, &cases)
+}
+
+/// The largest coordinate.
+const FAR: u32 = 536870911;
+
+#[test]
+fn extreme_pulls(rt: HostRuntime) -> Result<(), Fail> {
+    // the values are those of the formula in whole numbers of any size, divided out
+    let cases: [Pull; 10] = [
+        // too large for the bounds, and at their edge
+        (
+            (0, 0, 0),
+            (1, 0, 0),
+            1099511627776,
+            1,
+            [427465483178653409840857, 0, 0],
+        ),
+        (
+            (0, 0, 0),
+            (32767, 1, 0),
+            1099511627776,
+            1,
+            [1125968627367807, 34362884223, 0],
+        ),
+        (
+            (0, 0, 0),
+            (65536, 65536, 1),
+            1099511627776,
+            1,
+            [99516433014619, 99516433014619, 1518500259],
+        ),
+        // the quotients are whole
+        (
+            (0, 0, 0),
+            (1, 1, 1),
+            1099511627776,
+            1,
+            [
+                151115727451828646838272,
+                151115727451828646838272,
+                151115727451828646838272,
+            ],
+        ),
+        (
+            (0, 0, 0),
+            (1024, 1024, 1024),
+            1,
+            1024,
+            [131072, 131072, 131072],
+        ),
+        // the greatest distance, mass and softening
+        (
+            (FAR, FAR, FAR),
+            (0, 0, 536870910),
+            1099511627776,
+            268435456,
+            [-1242756, -1242756, 0],
+        ),
+        (
+            (0, FAR, 3),
+            (FAR, 0, 3),
+            1099511627775,
+            7,
+            [1482910, -1482910, 0],
+        ),
+        ((5, 5, 5), (6, 5, 5), 1099511627776, 268435456, [0, 0, 0]),
+        // the largest mass that is too small to pull, and one more
+        ((0, 0, 0), (FAR, 0, 0), 262142, 1, [0, 0, 0]),
+        ((0, 0, 0), (FAR, 0, 0), 262143, 1, [0, 0, 0]),
+    ];
+    pulls_are(&rt, &cases)
 }
 
 /// The record of one octant with a single body, wherever it is.
