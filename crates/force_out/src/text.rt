@@ -5,9 +5,8 @@ ghost use Rattle.hot_io.specs.Writing.{Writes};
 ghost use Rattle.force_out.specs.Idents.{IsIdent};
 ghost use Rattle.force_out.specs.ForcesText.{number_line, body_lines, last_line, forces_text};
 
-use hot_io::{Failed, Sink, write_all, write_pieces};
+use hot_io::{Failed, Line, Sink, write_all};
 use hot_model::Acc3;
-use itoa::Buffer;
 
 /// Writes the line of one body: its ident and the three components, with a space between each two.
 fn body_line<O: Sink>(out: &mut O, ident: i128, force: &Acc3) -> Result<(), Failed>
@@ -16,25 +15,12 @@ fn body_line<O: Sink>(out: &mut O, ident: i128, force: &Acc3) -> Result<(), Fail
     ensures text { Writes (O.written out.old) (O.written out.new) result
         (number_line (ident ∷ force.now.ax ∷ force.now.ay ∷ force.now.az ∷ [])) }
 {
-    let (mut name, mut x, mut y, mut z) = (
-        Buffer::new(),
-        Buffer::new(),
-        Buffer::new(),
-        Buffer::new(),
-    );
-    write_pieces(
-        out,
-        &[
-            name.format(ident).as_bytes(),
-            b" ",
-            x.format(force.ax).as_bytes(),
-            b" ",
-            y.format(force.ay).as_bytes(),
-            b" ",
-            z.format(force.az).as_bytes(),
-            b"\n",
-        ],
-    )
+    let mut line = Line::new();
+    line.add("", ident);
+    line.add(" ", force.ax);
+    line.add(" ", force.ay);
+    line.add(" ", force.az);
+    line.write(out)
 }
 
 /// Writes the lines of the bodies, in the order of the slices.
@@ -56,8 +42,9 @@ fn end_line<O: Sink>(out: &mut O, count: usize) -> Result<(), Failed>
     ensures cause { FailsExactly (O.faults out.old) (O.faults out.new) result }
     ensures text { Writes (O.written out.old) (O.written out.new) result (last_line count) }
 {
-    let mut number = Buffer::new();
-    write_pieces(out, &[b"# end ", number.format(count).as_bytes(), b"\n"])
+    let mut line = Line::new();
+    line.add("# end ", count);
+    line.write(out)
 }
 
 /// Writes the forces on the bodies as text: the line `# hot forces 1`, then for each body, in the order of the slices,

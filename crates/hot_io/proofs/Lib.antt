@@ -1,4 +1,5 @@
 pub mod Names
 pub mod Slices
+pub mod Texts
 pub mod Pieces
 pub mod Gains

@@ -6,6 +6,7 @@
 #![tactic(auto)]
 
 mod limits;
+mod line;
 mod mem_sink;
 mod mem_source;
 mod outside;
@@ -15,6 +16,7 @@ mod tests;
 mod writers;
 
 pub use limits::{MAX_OPENS, MAX_ROOM};
+pub use line::{LINE_ROOM, Line, NUMBER_ROOM};
 pub use mem_sink::MemSink;
 pub use mem_source::MemSource;
 pub use outside::{Failed, Sink, Source};

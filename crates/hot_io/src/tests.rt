@@ -135,6 +135,23 @@ fn memory_takes_what_it_has_room_for(rt: HostRuntime) -> Result<(), Fail> {
 }
 
 #[test]
+fn a_line_of_words_and_numbers(rt: HostRuntime) -> Result<(), Fail> {
+    for (room, text, failed) in [
+        (100, "rank 3 sum -7\n", false),
+        (13, "rank 3 sum -7", true),
+        (0, "", true),
+    ] {
+        let mut line = Line::new();
+        line.add("rank ", 3_u32);
+        line.add(" sum ", -7_i128);
+        let mut sink = MemSink::new(rt.alloc(), 4, room)?;
+        assert_eq!(rt; line.write(&mut sink).is_err(), failed, "{text}");
+        assert_eq!(rt; sink.written(), text.as_bytes());
+    }
+    Ok(())
+}
+
+#[test]
 fn the_system_gives_and_takes(rt: HostRuntime) -> Result<(), Fail> {
     fs::write(&rt, "rows.sdf", "rows and rows")?;
     let cases: [(&str, usize, &[usize], &str, bool); 3] = [

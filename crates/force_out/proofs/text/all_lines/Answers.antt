@@ -1,24 +1,18 @@
-use Rattle.std.proofs.Common.{◌≡◌, ◌++◌, ◌<◌, pos, length, take, get_or, arith, rules}
+use Rattle.std.proofs.Common.{◌≡◌, ◌<◌, pos, length, get_or, arith, rules}
 use mir.Syntax.{w128}
 use mir.Val.{of_z, to_z}
 use Rattle.std.proofs.lemmas.Result.{err_from_is_err_and}
 use Rattle.std.proofs.KnownBytes.{Appends-trans}
-use Rattle.force_out.specs.ForcesText.{body_lines}
 use Rattle.force_out.proofs.Lines.{body_lines-take, cut_in_line}
 use Rattle.force_out.proofs.text.all_lines.Goals as goal
 
 pub returns-in_err-body_line-clause-text : goal.returns-in_err-body_line-clause-text
 returns-in_err-body_line-clause-text g c =
     let p = err_from_is_err_and c.from_residual.result c.from_residual.ensures.1 in
-    let cut = c.in_err-body_line.ensures.text in
     let i = c.loop-i.i in
     let within : i < length c.args.idents.now = omega arith in
     let read : to_z w128 (of_z w128 (get_or c.args.idents.now i (pos 0))) ≡ get_or c.args.idents.now i (pos 0) = search rules in
-    rw p.1 (
-      body_lines (take i c.args.idents.now) (take i c.args.forces.now) ++ cut.0,
-      cut_in_line c.args.idents.now c.args.forces.now i _ c.index-forces-i.result cut.0 within c.loop-i-test.true read c.index-forces-i.is cut.1,
-      Appends-trans _ _ _ _ _ c.loop-i.invariant.so_far cut.2,
-    )
+    rw p.1 (cut_in_line c.args.idents.now c.args.forces.now i _ c.index-forces-i.result _ _ _ within c.loop-i-test.true read c.index-forces-i.is c.loop-i.invariant.so_far c.in_err-body_line.ensures.text)
 
 pub loop-i-preserved : goal.loop-i-preserved
 loop-i-preserved g c = record {

@@ -1,23 +1,22 @@
-use Rattle.std.proofs.Common.{length, ◌++◌}
+use Rattle.std.proofs.Common.{length, [], ◌++◌, append_assoc}
 use Rattle.std.proofs.lemmas.Result.{err_from_is_err_and}
-use Rattle.std.proofs.KnownBytes.{Appends-trans}
+use Rattle.std.proofs.KnownBytes.{Appends-nil, Appends-trans}
+use Rattle.hot_io.proofs.Texts.{cut_in_part, writes_next}
 use Rattle.force_out.specs.ForcesText.{first_line, body_lines, last_line}
-use Rattle.force_out.proofs.Lines.{front_longer, front_behind, writes_next}
 use Rattle.force_out.proofs.text.force_text.Goals as goal
 
 pub returns-in_err-write_all-clause-text : goal.returns-in_err-write_all-clause-text
 returns-in_err-write_all-clause-text g c =
     let p = err_from_is_err_and c.from_residual.result c.from_residual.ensures.1 in
-    let cut = c.in_err-write_all.ensures.bytes in
-    let lines = body_lines c.args.idents.now c.args.forces.now in
-    rw p.1 (cut.0, front_longer cut.0 (first_line ++ lines) (last_line (length c.args.forces.now)) (front_longer cut.0 first_line lines cut.1), cut.2)
+    let whole = append_assoc first_line (body_lines c.args.idents.now c.args.forces.now) (last_line (length c.args.forces.now)) in
+    rw p.1 (cut_in_part _ _ _ _ [] first_line _ whole (Appends-nil _) c.in_err-write_all.ensures.bytes)
 
 pub returns-in_err-all_lines-clause-text : goal.returns-in_err-all_lines-clause-text
 returns-in_err-all_lines-clause-text g c =
     let p = err_from_is_err_and c.from_residual-in_err-all_lines.result c.from_residual-in_err-all_lines.ensures.1 in
     let lines = body_lines c.args.idents.now c.args.forces.now in
-    let cut = c.in_err-all_lines.ensures.text in
-    rw p.1 (first_line ++ cut.0, front_longer (first_line ++ cut.0) (first_line ++ lines) (last_line (length c.args.forces.now)) (front_behind first_line cut.0 lines cut.1), Appends-trans _ _ _ _ _ c.in_ok-write_all.ensures.bytes cut.2)
+    let whole = append_assoc first_line lines (last_line (length c.args.forces.now)) in
+    rw p.1 (cut_in_part _ _ _ _ first_line lines _ whole c.in_ok-write_all.ensures.bytes c.in_err-all_lines.ensures.text)
 
 pub returns-clause-text : goal.returns-clause-text
 returns-clause-text g c =

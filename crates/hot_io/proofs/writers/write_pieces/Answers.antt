@@ -7,8 +7,7 @@ use Rattle.hot_io.proofs.writers.write_pieces.Goals as goal
 pub returns-in_err-write_all-clause-bytes : goal.returns-in_err-write_all-clause-bytes
 returns-in_err-write_all-clause-bytes g c =
     let p = err_from_is_err_and c.from_residual.result c.from_residual.ensures.1 in
-    let cut = c.in_err-write_all.ensures.bytes in
-    rw p.1 (cut_at c.args.pieces.now c.loop-piece.piece-index _ _ _ _ cut.0 c.loop-piece-test.true cut.1 c.loop-piece.invariant.so_far cut.2)
+    rw p.1 (cut_at c.args.pieces.now c.loop-piece.piece-index _ _ _ _ c.loop-piece-test.true c.loop-piece.invariant.so_far c.in_err-write_all.ensures.bytes)
 
 pub loop-piece-preserved : goal.loop-piece-preserved
 loop-piece-preserved g c = record {
