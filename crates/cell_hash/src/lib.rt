@@ -1,0 +1,12 @@
+//! A table by cell keys: the low bits of a key choose its bucket, and a bucket's chain goes by places in one vector.
+#![tactic(auto)]
+
+mod chains;
+mod laws;
+pub mod limits;
+mod table;
+#[cfg(test)]
+mod tests;
+
+pub use laws::last_writes_stand;
+pub use table::{CellTable, InsertRefused};
