@@ -1,226 +1,195 @@
--- How an advance takes up the pairs that are left, one by one.
-use Rattle.std.proofs.Common.{ℕ, suc, ◌≡◌, ◌+◌, ◌-◌, ◌^◌, ◌<◌, ◌≤◌, Bool, true, false, List, [], ◌∷◌, ◌++◌, length, map, set, sym, refl, ap, ◌∙◌, subst, inl, inr, arith, Option, Some, None, append_assoc}
-use Rattle.std.specs.Prelude.{Result, Ok, Err, OnOk, All, Contains, IsSome, slice_get, if◌then◌else◌}
+-- How an advance takes up the bodies that wait.
+use Rattle.std.proofs.Common.{ℕ, zero, suc, ◌≡◌, ◌<◌, ◌≤◌, Bool, true, false, List, [], ◌∷◌, ◌++◌, length, map, eqb, sym, refl, ap, ◌∙◌, subst, inl, arith, Option, Some, None, append_assoc}
+use Rattle.std.specs.Prelude.{All, Contains, IsSome, slice_get, if◌then◌else◌}
+use Rattle.std.proofs.lemmas.Bool.{eqb-true, eq-eqb}
 use Rattle.std.proofs.lemmas.List.{append-nil, map-append}
-use Rattle.std.proofs.lemmas.List.Elements.{All-append, All-nil, Contains-append_left, Contains-append_right}
-use Rattle.hot_model.specs.Limits.{max_all_mass}
+use Rattle.std.proofs.lemmas.List.Concat.{flat_map-append}
+use Rattle.std.proofs.lemmas.List.Elements.{All-append, All-nil, All-head, All-tail, All-cons, All-weaker, Contains-append_left, Contains-append_right}
 use Rattle.hot_model.specs.Values.{BodyValue, CellValue}
-use Rattle.hot_model.specs.Keys.{IsCell}
-use Rattle.hot_model.specs.Trees.{is_empty, Term, child, mass_of, mass_of_term, cell_record}
+use Rattle.hot_model.specs.Keys.{height}
+use Rattle.hot_model.specs.Trees.{is_empty, child, cell_record}
 use Rattle.hot_model.specs.World.{World, IsGood, piece, bodies_in, record_in}
 use Rattle.hot_model.specs.Branches.{IsBranch, parent}
 use Rattle.hot_model.specs.Needs.{is_away}
-use Rattle.hot_model.specs.Answers.{true_answer}
-use Rattle.hot_model.specs.Pairs.{PairValue, IsPair, pair_with, MaySwap}
+use Rattle.hot_model.specs.Answers.{child_records, true_answer}
+use Rattle.hot_model.specs.Pairs.{PairValue, pair_with, MaySwap}
 use Rattle.hot_model.specs.declared.list.Answer.{Answer}
-use Rattle.std.proofs.lemmas.Bool.{eqb-true}
+use Rattle.hot_model.specs.declared.list.Answer.TheVariants.{Bodies, Children}
 use Rattle.hot_model.proofs.Parts.{inside-root}
-use Rattle.hot_model.proofs.Aways.{away_own, own_away}
-use Rattle.hot_model.proofs.Asks.{child_covers}
-use Rattle.hot_model.proofs.Owners.{covered_own}
-use Rattle.hot_model.proofs.Fronts.{root_is_cell, parent_of_child, child_cell}
-use Rattle.hot_model.proofs.Heights.{height_is}
+use Rattle.hot_model.proofs.Walks.{some_length, full_length}
+use Rattle.hot_model.proofs.Members.{all_members, head_has, tail_has, map_has}
+use Rattle.hot_model.proofs.Aways.{away_own}
+use Rattle.hot_model.proofs.Children.{child_record_is}
+use Rattle.hot_model.proofs.Fronts.{root_is_cell, parent_of_child}
+use Rattle.hot_model.proofs.Heights.{has_children, outer_of_away}
 use Rattle.hot_model.proofs.Steps.{record_some}
-use Rattle.hot_model.proofs.Members.{map_has}
 use Rattle.defer_walk.specs.declared.asks.Slot.{Slot}
 use Rattle.defer_walk.specs.declared.listed.Listed.{Listed}
+use Rattle.defer_walk.specs.declared.held.Held.{Held}
 use Rattle.defer_walk.specs.Asked.{asked_keys, stored_at, Extends}
-use Rattle.defer_walk.specs.Settling.{IsOpened, IsChildOf, Wakes, now_opened}
-use Rattle.defer_walk.specs.Tallies.{TallyValue, Notes}
-use Rattle.defer_walk.specs.Standing.{VisitOf, Waits, IsAwake, AreRoots, pair_in, pairs_in}
-use Rattle.defer_walk.specs.Turning.{Beginning, ComesFrom, Keeps, Runs}
-use Rattle.defer_walk.proofs.Settles.{pair_full}
-use Rattle.defer_walk.proofs.Keeping.{All-front, All-back, All-one, keeps_settled, keeps_moved}
-use Rattle.defer_walk.proofs.Turnings.{All-has, away_test, keeps_fits, keeps_room, filter_short}
-use Rattle.defer_walk.proofs.Slots.{keys_extend, stored_extends, stored_true}
+use Rattle.defer_walk.specs.Settling.{IsOpened}
+use Rattle.defer_walk.specs.Tallies.{TallyValue, IsSameTally, noted}
+use Rattle.defer_walk.specs.Grouping.{group, by_children, AreOpened, opened_keys, listed_as, listed_of, all_listed, places_to}
+use Rattle.defer_walk.specs.Standing.{VisitOf, IsAsk, Waits, IsAwake, pair_in, pairs_in, roots}
+use Rattle.defer_walk.specs.Turning.{Beginning, ComesFrom, Keeps, Runs, IsLeafGroup}
+use Rattle.defer_walk.proofs.Slots.{stored_true, stored_extends, keys_extend}
 use Rattle.defer_walk.proofs.Noted.{one_has}
-
--- a child of a cell of another rank is of that rank too
-pub away_below : (w : World) (me c k : ℕ) → IsCell c → IsChildOf c k → 0 < length (bodies_in w k) → is_away w me c ≡ true → is_away w me k ≡ true
-away_below w me c k i b t a =
-    let low : suc i.0 ≤ 21 = (let z = height_is c i.0 i.1 i.2 in omega (arith, z, b.0, i.1)) in
-    let d = b.1.0 in
-    let o = away_own w me c a in
-    let full : 0 < length (bodies_in w (child c d)) = subst (λ (x : ℕ). 0 < length (bodies_in w x)) b.1.2 t in
-    let lower = covered_own w _ c (child c d) i (child_cell c d i.0 low i.2 b.1.1) (child_covers c d i.0 low i.2 b.1.1) o.0 in
-    subst (λ (x : ℕ). is_away w me x ≡ true) (sym b.1.2) (own_away w me _ (child c d) full lower o.1)
+use Rattle.defer_walk.proofs.Settles.{bodies_answer, children_answer, inner_settles}
+use Rattle.defer_walk.proofs.Keeping.{All-front, All-back, keeps_blocks, keeps_tally}
+use Rattle.defer_walk.proofs.Turnings.{All-has, away_test, filter_short}
+use Rattle.defer_walk.proofs.Blocks.{parted}
+use Rattle.defer_walk.proofs.Descents.{group_keeps, runs_with, away_below}
 
 -- a root that is all of one other rank is its branch
 pub root_branch : (w : World) (me : ℕ) → 0 < length (bodies_in w 1) → is_away w me 1 ≡ true → (q : ℕ) × IsBranch w q 1
 root_branch w me t a = let o = away_own w me 1 a in (_, record { cell = root_is_cell; some = t; own = o.0; outermost = inl refl })
 
--- the pair of a body with the root
-pub root_pair : (w : World) (root : CellValue) (l : Listed) → record_in w 1 ≡ Some root → l.key ≡ 1 → l.whole ≡ false → pair_with l.body false root ≡ pair_in w l
-root_pair w root l e k t =
-    let r = (record_some w 1 root e).1 in
-    ap (λ (x : Bool). pair_with l.body x root) (sym t) ∙ ap (pair_with l.body l.whole) (r ∙ ap (cell_record w.bodies) (sym k))
+pub root_comes : (w : World) (me : ℕ) (start : Beginning) (root : CellValue) (t whole : Bool) → t ≡ false → record_in w 1 ≡ Some root → ComesFrom t w me start (pair_with 0 whole root)
+root_comes w me start root t whole e r = subst (λ (x : Bool). ComesFrom x w me start (pair_with 0 whole root)) (sym e) (λ a.
+    let f = record_some w 1 root r in
+    let k : root.key ≡ 1 = ap (λ (x : CellValue). x.key) f.1 in
+    let b = root_branch w me (some_length (bodies_in w 1) f.0) (subst (λ (x : ℕ). is_away w me x ≡ true) k a) in
+    (b.0, subst (IsBranch w b.0) (sym k) b.1))
 
-pub pairs_more : (w : World) (xs ys : List Listed) (l : Listed) → ys ≡ xs ++ l ∷ [] → pairs_in w ys ≡ pairs_in w xs ++ pair_in w l ∷ []
-pairs_more w xs ys l e = ap (pairs_in w) e ∙ map-append (pair_in w) xs (l ∷ [])
+-- all bodies with the root
+pub roots_group : (w : World) (root : CellValue) → record_in w 1 ≡ Some root → (n : ℕ) → pairs_in w (roots n) ≡ group false root (places_to n)
+roots_group w root r zero = refl
+roots_group w root r (suc n) =
+    let same : cell_record w.bodies 1 ≡ root = sym (record_some w 1 root r).1 in
+    map-append (pair_in w) (roots n) ((record { body = n; whole = false; key = 1 }) ∷ [])
+    ∙ ap (λ (ps : List PairValue). ps ++ pair_with n false (cell_record w.bodies 1) ∷ []) (roots_group w root r n)
+    ∙ ap (λ (c : CellValue). group false root (places_to n) ++ pair_with n false c ∷ []) same
+    ∙ sym (map-append (λ (b : ℕ). pair_with b false root) (places_to n) (n ∷ []))
 
-module _ {A : Type 0} (v : VisitOf A) (w : World) (me : ℕ) (start : Beginning) (bodies : List BodyValue) (accs : List A) (tally : TallyValue) (slots : List Slot) (rest waiting : List PairValue) (p : PairValue)
-    (r : Runs v w me start bodies accs tally slots (rest ++ p ∷ []) [] waiting) where
-  plain : Keeps v w me bodies accs tally slots (waiting ++ (rest ++ p ∷ []))
-  plain = subst (λ (ps : List PairValue). Keeps v w me bodies accs tally slots (waiting ++ ps)) (append-nil (rest ++ p ∷ [])) r.keeps
+-- the bodies of a chunk with the root, behind those that come later
+pub chunk_group : (root : CellValue) (keep : ℕ) (to : ℕ) (chunk : List ℕ) → places_to keep ++ chunk ≡ places_to to → group false root (places_to to) ≡ group false root (places_to keep) ++ group false root chunk
+chunk_group root keep to chunk e = ap (group false root) (sym e) ∙ map-append (λ (b : ℕ). pair_with b false root) (places_to keep) chunk
 
-  pub last_pair : IsPair w p
-  last_pair = All-has (IsPair w) (p ∷ []) p (All-back (IsPair w) rest (p ∷ []) (All-back (IsPair w) waiting (rest ++ p ∷ []) plain.balance.cells)) (0, omega arith, refl)
+-- the last of the children that are left
+pub children_snoc : (flag : Bool) (bs : List ℕ) (keep : List PairValue) (rs : List CellValue) (r : CellValue) → keep ++ by_children flag bs (rs ++ r ∷ []) ≡ (keep ++ by_children flag bs rs) ++ group flag r bs
+children_snoc flag bs keep rs r =
+    ap (λ (ps : List PairValue). keep ++ ps) (flat_map-append (λ (x : CellValue). group flag x bs) rs (r ∷ []) ∙ ap (λ (ps : List PairValue). by_children flag bs rs ++ ps) (append-nil (group flag r bs)))
+    ∙ sym (append_assoc keep (by_children flag bs rs) (group flag r bs))
 
-  pub last_body : p.body < length bodies
-  last_body = All-has (λ (q : PairValue). q.body < length bodies) (p ∷ []) p (All-back (λ (q : PairValue). q.body < length bodies) rest (p ∷ []) (All-back (λ (q : PairValue). q.body < length bodies) waiting (rest ++ p ∷ []) plain.balance.places)) (0, omega arith, refl)
+-- the bodies that wait for one cell more
+pub held_snoc : (w : World) (hs : List Held) (h : Held) → pairs_in w (all_listed (hs ++ h ∷ [])) ≡ pairs_in w (all_listed hs) ++ pairs_in w (listed_of h)
+held_snoc w hs h =
+    ap (pairs_in w) (flat_map-append listed_of hs (h ∷ []) ∙ ap (λ (ls : List Listed). all_listed hs ++ ls) (append-nil (listed_of h)))
+    ∙ map-append (pair_in w) (all_listed hs) (listed_of h)
 
-  -- a pair is taken to work
-  pub runs_taken : ComesFrom start.advanced w me start p → Runs v w me start bodies accs tally slots rest (p ∷ []) waiting
-  runs_taken c = record {
-    keeps = plain;
-    asks = r.asks;
-    clear = r.clear;
-    comes = All-one (ComesFrom start.advanced w me start) p c;
-    waits = r.waits;
-    absent = r.absent;
-  }
+-- the bodies that wait for a cell are at it
+pub held_group : (w : World) (whole : Bool) (key : ℕ) (bs : List ℕ) → pairs_in w (listed_as key whole bs) ≡ group whole (cell_record w.bodies key) bs
+held_group w whole key [] = refl
+held_group w whole key (b ∷ bs) = ap (λ (ps : List PairValue). pair_with b whole (cell_record w.bodies key) ∷ ps) (held_group w whole key bs)
 
-  -- or still waits
-  pub runs_still : ((b : BodyValue) → MaySwap (v.adds b)) → Waits v w me bodies slots p → stored_at slots p.rec.key ≡ None → Runs v w me start bodies accs tally slots rest [] (waiting ++ p ∷ [])
-  runs_still swap h n = record {
-    keeps = subst (λ (ps : List PairValue). Keeps v w me bodies accs tally slots ((waiting ++ p ∷ []) ++ ps)) (sym (append-nil rest)) (keeps_moved v w me bodies swap accs tally slots waiting rest p plain);
-    asks = r.asks;
-    clear = r.clear;
-    comes = All-nil (ComesFrom start.advanced w me start);
-    waits = All-append (Waits v w me bodies slots) waiting (p ∷ []) r.waits (All-one (Waits v w me bodies slots) p h);
-    absent = All-append (λ (q : PairValue). stored_at slots q.rec.key ≡ None) waiting (p ∷ []) r.absent (All-one (λ (q : PairValue). stored_at slots q.rec.key ≡ None) p n);
-  }
-
-  -- or was answered
-  pub runs_woken : ((b : BodyValue) → MaySwap (v.adds b)) → start.advanced ≡ true → (tally' : TallyValue) (new : List PairValue) (b : BodyValue) (a a' : A) → slice_get bodies p.body ≡ Some b → slice_get accs p.body ≡ Some a
-      → is_away w me p.rec.key ≡ true → Contains (asked_keys slots) p.rec.key → IsAwake start.slots start.pairs p.rec.key → Wakes (v.adds b) (v.opens b) w me p a a' [] new → Notes tally tally' (now_opened (v.opens b) p)
-      → Runs v w me start bodies (set accs p.body a') tally' slots rest new waiting
-  runs_woken swap late tally' new b a a' pb pa y there awake t n = record {
-    keeps = subst (Keeps v w me bodies (set accs p.body a') tally' slots) (append_assoc waiting rest t.next ∙ ap (λ (ps : List PairValue). waiting ++ (rest ++ ps)) (sym t.work))
-        (keeps_settled v w me bodies swap accs tally tally' slots (waiting ++ rest) t.next p b a a' (p.rec.key ∷ []) pb pa t.settles n (λ k h. subst (Contains (asked_keys slots)) (sym (one_has p.rec.key k h)) there)
-        (subst (Keeps v w me bodies accs tally slots) (sym (append_assoc waiting rest (p ∷ []))) plain));
-    asks = r.asks;
-    clear = r.clear;
-    comes = subst (All (ComesFrom start.advanced w me start)) (sym t.work) (subst (λ (x : Bool). All (ComesFrom x w me start) t.next) (sym late) below);
-    waits = r.waits;
-    absent = r.absent;
-  }
-    where
-      below : All (ComesFrom true w me start) t.next
-      below = λ k d h.
-          let c = t.settles.below k d h in
-          let q = t.settles.pairs k d h in (
-            subst (IsAwake start.slots start.pairs) (sym (ap parent c.1.2 ∙ parent_of_child p.rec.key c.1.0 c.1.1)) awake,
-            away_below w me p.rec.key _ last_pair.cell c (pair_full w _ q).0 y,
-          )
-
--- the first pairs that are left, and the last of them
-pub front_of : (P : Listed → Type 0) (ls ls' : List Listed) (l : Listed) → ls ≡ ls' ++ l ∷ [] → All P ls → All P ls'
-front_of P ls ls' l e h = All-front P ls' (l ∷ []) (subst (All P) e h)
-
-pub last_of : (P : Listed → Type 0) (ls ls' : List Listed) (l : Listed) → ls ≡ ls' ++ l ∷ [] → All P ls → P l
-last_of P ls ls' l e h = All-has P (l ∷ []) l (All-back P ls' (l ∷ []) (subst (All P) e h)) (0, omega arith, refl)
-
-module _ {A : Type 0} (v : VisitOf A) (w : World) (me : ℕ) (start : Beginning) (bodies : List BodyValue) (accs : List A) (tally : TallyValue) (slots : List Slot) where
-  -- a body begins with the root
-  pub begun : (ls ls' : List Listed) (l : Listed) (root : CellValue) (works pushed ws : List PairValue) (p : PairValue) → start.advanced ≡ false → AreRoots ls → ls ≡ ls' ++ l ∷ [] → record_in w 1 ≡ Some root
-      → works ≡ [] → pushed ≡ works ++ p ∷ [] → p ≡ pair_with l.body false root → Runs v w me start bodies accs tally slots (pairs_in w ls) [] ws → Runs v w me start bodies accs tally slots (pairs_in w ls') pushed ws
-  begun ls ls' l root works pushed ws p first roots e rec none push made r =
-      let at = last_of (λ (x : Listed). (x.key ≡ 1) × (x.whole ≡ false)) ls ls' l e roots in
-      let work : pushed ≡ pair_in w l ∷ [] = push ∙ ap (λ (ps : List PairValue). ps ++ p ∷ []) none ∙ ap (λ (x : PairValue). x ∷ []) (made ∙ root_pair w root l rec at.0 at.1) in
-      let split : Runs v w me start bodies accs tally slots (pairs_in w ls' ++ pair_in w l ∷ []) [] ws = subst (λ (ps : List PairValue). Runs v w me start bodies accs tally slots ps [] ws) (pairs_more w ls' ls l e) r in
-      let is = last_pair v w me start bodies accs tally slots (pairs_in w ls') ws (pair_in w l) split in
-      let full = (pair_full w (pair_in w l) is).0 in
-      let comes : ComesFrom false w me start (pair_in w l) = (λ a.
-      let b = root_branch w me (subst (λ (k : ℕ). 0 < length (bodies_in w k)) at.0 full) (subst (λ (k : ℕ). is_away w me k ≡ true) at.0 a) in
-      (b.0, subst (IsBranch w b.0) (sym at.0) b.1)) in
-      subst (λ (ps : List PairValue). Runs v w me start bodies accs tally slots (pairs_in w ls') ps ws) (sym work)
-      (runs_taken v w me start bodies accs tally slots (pairs_in w ls') ws (pair_in w l) split (subst (λ (x : Bool). ComesFrom x w me start (pair_in w l)) (sym first) comes))
-
--- a pair that is left was there at the start
-pub was_there : (all ls ls' more : List Listed) (l : Listed) → all ≡ ls ++ more → ls ≡ ls' ++ l ∷ [] → Contains all l
-was_there all ls ls' more l e f =
-    subst (λ (xs : List Listed). Contains xs l) (sym e)
-    (Contains-append_left ls more l (subst (λ (xs : List Listed). Contains xs l) (sym f) (Contains-append_right ls' (l ∷ []) l (0, omega arith, refl))))
-
-pub more_left : (all ls ls' more : List Listed) (l : Listed) → all ≡ ls ++ more → ls ≡ ls' ++ l ∷ [] → all ≡ ls' ++ (l ∷ more)
-more_left all ls ls' more l e f = e ∙ ap (λ (xs : List Listed). xs ++ more) f ∙ append_assoc ls' (l ∷ []) more
-
--- the cell that is opened with a pair that waits
-pub noted_is : (opens : CellValue → Bool) (p : PairValue) → IsOpened opens p → now_opened opens p ≡ (if p.whole then [] else (p.rec.key ∷ []))
-noted_is opens p o = by_whole p.whole refl
+-- an answer is stored at a cell that was asked for
+pub stored_key : (xs : List Slot) (k : ℕ) (a : Answer) → stored_at xs k ≡ Some a → (s : Slot) × Contains xs s × (s.key ≡ k)
+stored_key [] k a e = absurd (cc)
+stored_key (x ∷ xs) k a e = by_test (λ f. stored_key xs k a f) (eqb x.key k) refl e
   where
-    by_whole : (t : Bool) → p.whole ≡ t → (if t then [] else (if opens p.rec then p.rec.key ∷ [] else [])) ≡ (if t then [] else (p.rec.key ∷ []))
-    by_whole true e = refl
-    by_whole false e = elim o [
-      | inl f ↦ absurd (let h : true ≡ false = sym f ∙ e in cc)
-      | inr f ↦ rw f refl
-    ]
+    by_test : (stored_at xs k ≡ Some a → (s : Slot) × Contains xs s × (s.key ≡ k)) → (t : Bool) → eqb x.key k ≡ t → (if t then x.answer else stored_at xs k) ≡ Some a → (s : Slot) × Contains (x ∷ xs) s × (s.key ≡ k)
+    by_test more true f g = (x, head_has x xs, eqb-true x.key k f)
+    by_test more false f g = let r = more g in (r.0, tail_has x xs r.0 r.1, r.2)
 
-module _ {A : Type 0} (v : VisitOf A) (w : World) (me : ℕ) (start : Beginning) (bodies : List BodyValue) (accs : List A) (tally : TallyValue) (slots : List Slot) (all ls ls' more : List Listed) (l : Listed) (ws : List PairValue)
-    (late : start.advanced ≡ true) (same : start.pairs ≡ all) (waited : All (Waits v w me bodies start.slots) (pairs_in w all)) (e : all ≡ ls ++ more) (f : ls ≡ ls' ++ l ∷ []) (r : Runs v w me start bodies accs tally slots (pairs_in w ls) [] ws) where
-  split : Runs v w me start bodies accs tally slots (pairs_in w ls' ++ pair_in w l ∷ []) [] ws
-  split = subst (λ (ps : List PairValue). Runs v w me start bodies accs tally slots ps [] ws) (pairs_more w ls' ls l f) r
+module _ {A : Type 0} (v : VisitOf A) (w : World) (me : ℕ) (start : Beginning) (bodies : List BodyValue) (swap : (b : BodyValue) → MaySwap (v.adds b)) where
+  -- bodies still wait
+  pub runs_still : (accs : List A) (tally : TallyValue) (slots : List Slot) (keep g waiting : List PairValue) → All (Waits v w me bodies slots) g → All (λ (q : PairValue). stored_at slots q.rec.key ≡ None) g → Runs v w me start bodies accs tally slots (keep ++ g) waiting → Runs v w me start bodies accs tally slots keep (waiting ++ g)
+  runs_still accs tally slots keep g waiting h n r = record {
+    keeps = subst (Keeps v w me bodies accs tally slots) (ap (λ (ps : List PairValue). waiting ++ (g ++ ps)) (append-nil keep) ∙ sym (append_assoc waiting g keep))
+        (keeps_blocks v w me bodies swap accs tally slots waiting keep g [] (subst (λ (ps : List PairValue). Keeps v w me bodies accs tally slots (waiting ++ (keep ++ ps))) (sym (append-nil g)) r.keeps));
+    asks = r.asks;
+    clear = r.clear;
+    waits = All-append (Waits v w me bodies slots) waiting g r.waits h;
+    absent = All-append (λ (q : PairValue). stored_at slots q.rec.key ≡ None) waiting g r.absent n;
+  }
 
-  there : Contains all l
-  there = was_there all ls ls' more l e f
+  -- all bodies that wait for a cell lack its answer
+  pub all_absent : (slots : List Slot) (key : ℕ) (whole : Bool) (bs : List ℕ) → stored_at slots key ≡ None → All (λ (q : PairValue). stored_at slots q.rec.key ≡ None) (pairs_in w (listed_as key whole bs))
+  all_absent slots key whole [] e = All-nil (λ (q : PairValue). stored_at slots q.rec.key ≡ None)
+  all_absent slots key whole (b ∷ bs) e = All-cons (λ (q : PairValue). stored_at slots q.rec.key ≡ None) (pair_in w (record { body = b; whole = whole; key = key })) (pairs_in w (listed_as key whole bs)) e (all_absent slots key whole bs e)
 
-  waits : Waits v w me bodies start.slots (pair_in w l)
-  waits = All-has (Waits v w me bodies start.slots) (pairs_in w all) (pair_in w l) waited (map_has (pair_in w) all l there)
+  -- a body that waits is opened or to be added whole
+  pub are_opened : (slots : List Slot) (key : ℕ) (whole : Bool) (bs : List ℕ) → All (Waits v w me bodies slots) (pairs_in w (listed_as key whole bs)) → AreOpened v.opens bodies whole (cell_record w.bodies key) bs
+  are_opened slots key whole [] h = All-nil (λ (i : ℕ). (b : BodyValue) → slice_get bodies i ≡ Some b → IsOpened (v.opens b) (pair_with i whole (cell_record w.bodies key)))
+  are_opened slots key whole (j ∷ bs) h =
+      let p = pair_in w (record { body = j; whole = whole; key = key }) in
+      let ps = pairs_in w (listed_as key whole bs) in
+      All-cons (λ (i : ℕ). (b : BodyValue) → slice_get bodies i ≡ Some b → IsOpened (v.opens b) (pair_with i whole (cell_record w.bodies key))) j bs (All-head (Waits v w me bodies slots) p ps h).opened (are_opened slots key whole bs (All-tail (Waits v w me bodies slots) p ps h))
 
-  extends : Extends start.slots slots
-  extends = record { more = r.asks.more; new_is = r.asks.slots_are; unanswered = r.asks.unanswered }
+  module _ (accs : List A) (tally : TallyValue) (slots : List Slot) (keep waiting : List PairValue) (key : ℕ) (whole : Bool) (bs : List ℕ) (answer : Answer) (got : stored_at slots key ≡ Some answer) (waited : All (Waits v w me bodies start.slots) (pairs_in w (listed_as key whole bs)))
+      (r : Runs v w me start bodies accs tally slots (keep ++ pairs_in w (listed_as key whole bs)) waiting) where
+    abbrev rec : CellValue
+    rec = cell_record w.bodies key
 
-  pub left_pair : IsPair w (pair_in w l)
-  left_pair = last_pair v w me start bodies accs tally slots (pairs_in w ls') ws (pair_in w l) split
+    pub woken_runs : Runs v w me start bodies accs tally slots (keep ++ group whole (cell_record w.bodies key) bs) waiting
+    woken_runs = subst (λ (ps : List PairValue). Runs v w me start bodies accs tally slots (keep ++ ps) waiting) (held_group w whole key bs) r
 
-  pub left_body : l.body < length bodies
-  left_body = last_body v w me start bodies accs tally slots (pairs_in w ls') ws (pair_in w l) split
+    asked : IsAsk v w me slots (record { owner = (stored_key slots key answer got).0.owner; key = key; answer = None })
+    asked =
+        let s = stored_key slots key answer got in
+        let a = All-has (IsAsk v w me slots) slots s.0 r.keeps.store.asks s.1 in
+        subst (λ (k : ℕ). IsAsk v w me slots (record { owner = s.0.owner; key = k; answer = None })) s.2 (record { cell = a.cell; some = a.some; away = a.away; needed = a.needed; chained = a.chained })
 
-  pub left_away : is_away w me l.key ≡ true
-  left_away = away_test w me waits.away.0 l.key left_pair.cell (pair_full w (pair_in w l) left_pair).0 waits.away.1
+    away : is_away w me key ≡ true
+    away = away_test w me (stored_key slots key answer got).0.owner key asked.cell asked.some asked.away
 
-  pub left_opened : (b : BodyValue) → slice_get bodies l.body ≡ Some b → IsOpened (v.opens b) (pair_in w l)
-  left_opened b h = waits.opened b h
+    there : Contains (asked_keys slots) key
+    there = let s = stored_key slots key answer got in subst (λ (k : ℕ). Contains (asked_keys slots) k) s.2 (map_has (λ (x : Slot). x.key) slots s.0 s.1)
 
-  -- the pair still waits
-  pub left_waits : ((b : BodyValue) → MaySwap (v.adds b)) → (ws' : List Listed) (w₀ : List Listed) → ws ≡ pairs_in w w₀ → ws' ≡ w₀ ++ l ∷ [] → stored_at slots l.key ≡ None → Runs v w me start bodies accs tally slots (pairs_in w ls') [] (pairs_in w ws')
-  left_waits swap ws' w₀ is push none =
-      subst (λ (ps : List PairValue). Runs v w me start bodies accs tally slots (pairs_in w ls') [] ps) (ap (λ (ps : List PairValue). ps ++ pair_in w l ∷ []) is ∙ sym (pairs_more w w₀ ws' l push))
-      (runs_still v w me start bodies accs tally slots (pairs_in w ls') ws (pair_in w l) split swap (record { opened = waits.opened; away = waits.away; asked = keys_extend start.slots slots l.key extends waits.asked }) none)
+    true_here : answer ≡ true_answer w key
+    true_here = stored_true w slots key answer r.keeps.store.truth got
 
-  -- the pair was answered
-  pub left_wakes : ((b : BodyValue) → MaySwap (v.adds b)) → (answer : Answer) → stored_at slots l.key ≡ Some answer → (tally' : TallyValue) (new : List PairValue) (b : BodyValue) (a a' : A) → slice_get bodies l.body ≡ Some b → slice_get accs l.body ≡ Some a
-      → Wakes (v.adds b) (v.opens b) w me (pair_in w l) a a' [] new → Notes tally tally' (if l.whole then [] else (l.key ∷ [])) → Runs v w me start bodies (set accs l.body a') tally' slots (pairs_in w ls') new ws
-  left_wakes swap answer got tally' new b a a' pb pa t n =
-      runs_woken v w me start bodies accs tally slots (pairs_in w ls') ws (pair_in w l) split swap late tally' new b a a' pb pa left_away (keys_extend start.slots slots l.key extends waits.asked)
-      (subst (λ (ps : List Listed). Contains (map (λ x. x.key) ps) l.key) (sym same) (map_has (λ (x : Listed). x.key) all l there), subst (λ (o : Option Answer). IsSome o) (sym (sym (stored_extends start.slots slots l.key extends) ∙ got)) refl)
-      t (subst (Notes tally tally') (sym (noted_is (v.opens b) (pair_in w l) (left_opened b pb))) n)
+    opened : AreOpened v.opens bodies whole rec bs
+    opened = are_opened start.slots key whole bs waited
 
-  pub left_true : (answer : Answer) → stored_at slots l.key ≡ Some answer → answer ≡ true_answer w l.key
-  left_true answer got = stored_true w slots l.key answer r.keeps.store.truth got
+    -- the bodies of a leaf
+    pub woken_leaf : IsGood w → (xs others : List BodyValue) → answer ≡ Bodies xs → others ≡ xs → IsLeafGroup v w me bodies accs tally slots (waiting ++ keep) whole (cell_record w.bodies key) bs others
+    woken_leaf good xs others e f =
+        let l = bodies_answer w key xs (sym e ∙ true_here) in
+        record {
+          good = good;
+          keeps = group_keeps v w me start bodies swap accs tally slots keep waiting whole rec bs woken_runs;
+          leaf = l.0;
+          others_are = f ∙ l.1;
+          opened = opened;
+          asked = λ k h. subst (Contains (asked_keys slots)) (sym (one_has key k (subst (λ (ks : List ℕ). Contains ks k) (outer_of_away w me key (full_length (bodies_in w key) asked.some) away) h))) there;
+        }
 
-  pub left_fits : ((b : BodyValue) (a : A) (t : Term) → v.seen (v.adds b a t) ≡ v.seen a + mass_of_term t) → IsGood w → (b : BodyValue) (a : A) → slice_get bodies l.body ≡ Some b → slice_get accs l.body ≡ Some a → v.seen a + mass_of (bodies_in w l.key) ≤ max_all_mass
-  left_fits sees good b a pb pa = keeps_fits v w me bodies accs tally slots (ws ++ pairs_in w ls') (pair_in w l) ended left_pair left_body sees good b a pb pa
-    where
-      ended : Keeps v w me bodies accs tally slots ((ws ++ pairs_in w ls') ++ pair_in w l ∷ [])
-      ended = subst (Keeps v w me bodies accs tally slots) (ap (λ (ps : List PairValue). ws ++ ps) (append-nil (pairs_in w ls' ++ pair_in w l ∷ [])) ∙ sym (append_assoc ws (pairs_in w ls') (pair_in w l ∷ []))) split.keeps
+    pub woken_done : (accs' : List A) (tally' : TallyValue) → IsSameTally (noted (opened_keys whole key) tally (length bs)) tally' → Keeps v w me bodies accs' (noted (opened_keys whole key) tally (length bs)) slots (waiting ++ keep) → Runs v w me start bodies accs' tally' slots (keep ++ []) waiting
+    woken_done accs' tally' same k = runs_with v w me start bodies swap accs accs' tally tally' slots (keep ++ group whole rec bs) (keep ++ []) waiting
+        (subst (λ (ps : List PairValue). Keeps v w me bodies accs' tally' slots (waiting ++ ps)) (sym (append-nil keep)) (keeps_tally v w me bodies swap accs' (noted (opened_keys whole key) tally (length bs)) tally' slots (waiting ++ keep) same k)) woken_runs
 
-  pub left_room : IsGood w → bodies ≡ piece w me → tally.opened < 2 ^ 64 - 1
-  left_room good own = keeps_room v w me bodies accs tally slots (ws ++ pairs_in w ls') (pair_in w l) ended left_pair left_body good own
-    where
-      ended : Keeps v w me bodies accs tally slots ((ws ++ pairs_in w ls') ++ pair_in w l ∷ [])
-      ended = subst (Keeps v w me bodies accs tally slots) (ap (λ (ps : List PairValue). ws ++ ps) (append-nil (pairs_in w ls' ++ pair_in w l ∷ [])) ∙ sym (append_assoc ws (pairs_in w ls') (pair_in w l ∷ []))) split.keeps
+    -- or the children
+    pub woken_keeps : (xs : List CellValue) → answer ≡ Children xs → Keeps v w me bodies accs (noted (opened_keys whole key) tally (length bs)) slots ((waiting ++ keep) ++ by_children false bs xs)
+    woken_keeps xs e =
+        let l = children_answer w key xs (sym e ∙ true_here) in
+        subst (λ (rs : List CellValue). Keeps v w me bodies accs (noted (opened_keys whole key) tally (length bs)) slots ((waiting ++ keep) ++ by_children false bs rs)) (sym l.1)
+        (parted v w me bodies swap accs tally slots whole false rec (key ∷ []) (λ j b a is o. inner_settles (v.adds b) (v.opens b) w me (pair_with j whole rec) a is (key ∷ []) o l.0 (rw away refl)) (λ k h. subst (Contains (asked_keys slots)) (sym (one_has key k h)) there) bs (waiting ++ keep) opened
+        (group_keeps v w me start bodies swap accs tally slots keep waiting whole rec bs woken_runs))
+
+    pub woken_parted : (tally' : TallyValue) (xs : List CellValue) → IsSameTally (noted (opened_keys whole key) tally (length bs)) tally' → Keeps v w me bodies accs (noted (opened_keys whole key) tally (length bs)) slots ((waiting ++ keep) ++ by_children false bs xs) → Runs v w me start bodies accs tally' slots (keep ++ by_children false bs xs) waiting
+    woken_parted tally' xs same k = runs_with v w me start bodies swap accs accs tally tally' slots (keep ++ group whole rec bs) (keep ++ by_children false bs xs) waiting
+        (subst (Keeps v w me bodies accs tally' slots) (append_assoc waiting keep (by_children false bs xs)) (keeps_tally v w me bodies swap accs (noted (opened_keys whole key) tally (length bs)) tally' slots ((waiting ++ keep) ++ by_children false bs xs) same k)) woken_runs
+
+    pub woken_comes : (xs : List CellValue) → answer ≡ Children xs → start.advanced ≡ true → IsAwake start.slots start.pairs key → All (λ (r : CellValue). ComesFrom start.advanced w me start (pair_with 0 false r)) xs
+    woken_comes xs e late awake =
+        let l = children_answer w key xs (sym e ∙ true_here) in
+        let high = has_children w.leaf w.bodies key asked.cell l.0 in
+        subst (λ (t : Bool). All (λ (r : CellValue). ComesFrom t w me start (pair_with 0 false r)) xs) (sym late)
+        (subst (All (λ (r : CellValue). ComesFrom true w me start (pair_with 0 false r))) (sym l.1)
+        (all_members (λ (r : CellValue). ComesFrom true w me start (pair_with 0 false r)) (child_records w key) (λ r m.
+        let d = child_record_is w key r m in
+        let k : r.key ≡ child key d.0 = ap (λ (x : CellValue). x.key) d.3 in
+        let up : 0 < height key = (let z = high.high in omega (arith, z)) in (
+          subst (IsAwake start.slots start.pairs) (sym (ap parent k ∙ parent_of_child key d.0 d.1)) awake,
+          away_below w me key r.key asked.cell (up, (d.0, d.1, k)) (subst (λ (x : ℕ). 0 < length (bodies_in w x)) (sym k) d.2) away,
+        ))))
 
 -- without bodies there are no pairs
-pub none_left : {A : Type 0} (v : VisitOf A) (w : World) (me : ℕ) (start : Beginning) (bodies : List BodyValue) (accs : List A) (tally : TallyValue) (slots : List Slot) (ls : List Listed) (ws : List PairValue)
-    → bodies ≡ piece w me → record_in w 1 ≡ None → Runs v w me start bodies accs tally slots (pairs_in w ls) [] ws → ls ≡ []
-none_left v w me start bodies accs tally slots [] ws own none r = refl
-none_left v w me start bodies accs tally slots (l ∷ ls) ws own none r =
-    let places = subst (λ (ps : List PairValue). All (λ q. q.body < length bodies) (ws ++ ps)) (append-nil (pairs_in w (l ∷ ls))) r.keeps.balance.places in
-    let first = All-has (λ (q : PairValue). q.body < length bodies) (pair_in w l ∷ pairs_in w ls) (pair_in w l) (All-back (λ (q : PairValue). q.body < length bodies) ws (pair_in w l ∷ pairs_in w ls) places) (0, omega arith, refl) in
+pub none_left : (w : World) (me n : ℕ) (bodies : List BodyValue) → n ≡ length bodies → bodies ≡ piece w me → record_in w 1 ≡ None → roots n ≡ []
+none_left w me n bodies long own none =
     let few : length bodies ≤ length w.bodies = subst (λ (xs : List BodyValue). length xs ≤ length w.bodies) (sym own) (filter_short _ w.bodies) in
-    absurd (omega (arith, first, few, no_bodies w none))
+    ap roots (let z : n ≡ 0 = omega (arith, long, few, no_bodies w none) in z)
   where
     no_bodies : (w : World) → record_in w 1 ≡ None → length w.bodies ≡ 0
     no_bodies w e = by_test (is_empty (bodies_in w 1)) refl e
@@ -229,7 +198,48 @@ none_left v w me start bodies accs tally slots (l ∷ ls) ws own none r =
         by_test true f g = ap length (sym (inside-root w.bodies)) ∙ eqb-true _ _ f
         by_test false f g = absurd (cc)
 
--- what holds at Ok, and what follows from it
-pub on_ok : {T E : Type 0} (r : Result T E) (P Q : Type 0) → (P → Q) → OnOk r P → OnOk r Q
-on_ok (Ok x) P Q f h = f h
-on_ok (Err e) P Q f h = h
+-- the bodies that wait for one of the cells
+pub more_left : (all ls ws more : List Held) (h : Held) → all ≡ ls ++ more → ls ≡ ws ++ h ∷ [] → all ≡ ws ++ (h ∷ more)
+more_left all ls ws more h e f = e ∙ ap (λ (xs : List Held). xs ++ more) f ∙ append_assoc ws (h ∷ []) more
+
+listed_there : (all ls ws more : List Held) (h : Held) → all ≡ ls ++ more → ls ≡ ws ++ h ∷ [] → all_listed all ≡ all_listed ws ++ (listed_of h ++ all_listed more)
+listed_there all ls ws more h e f = ap all_listed (more_left all ls ws more h e f) ∙ flat_map-append listed_of ws (h ∷ more)
+
+pub waits_of : (w : World) (P : PairValue → Type 0) (all ls ws more : List Held) (h : Held) → all ≡ ls ++ more → ls ≡ ws ++ h ∷ [] → All P (pairs_in w (all_listed all)) → All P (pairs_in w (listed_of h))
+waits_of w P all ls ws more h e f k =
+    let split = ap (pairs_in w) (listed_there all ls ws more h e f) ∙ map-append (pair_in w) (all_listed ws) (listed_of h ++ all_listed more) ∙ ap (λ (ps : List PairValue). pairs_in w (all_listed ws) ++ ps) (map-append (pair_in w) (listed_of h) (all_listed more)) in
+    All-front P (pairs_in w (listed_of h)) (pairs_in w (all_listed more)) (All-back P (pairs_in w (all_listed ws)) (pairs_in w (listed_of h) ++ pairs_in w (all_listed more)) (subst (All P) split k))
+
+pub key_there : (all ls ws more : List Held) (h : Held) → 0 < length h.bodies.items → all ≡ ls ++ more → ls ≡ ws ++ h ∷ [] → Contains (map (λ (x : Listed). x.key) (all_listed all)) h.key
+key_there all ls ws more h some e f =
+    let one = by_first h.key h.whole h.bodies.items some in
+    map_has (λ (x : Listed). x.key) (all_listed all) (record { body = one.0; whole = h.whole; key = h.key })
+    (subst (λ (xs : List Listed). Contains xs (record { body = one.0; whole = h.whole; key = h.key })) (sym (listed_there all ls ws more h e f))
+    (Contains-append_right (all_listed ws) (listed_of h ++ all_listed more) (record { body = one.0; whole = h.whole; key = h.key }) (Contains-append_left (listed_of h) (all_listed more) (record { body = one.0; whole = h.whole; key = h.key }) one.1)))
+  where
+    by_first : (key : ℕ) (whole : Bool) (bs : List ℕ) → 0 < length bs → (b : ℕ) × Contains (listed_as key whole bs) (record { body = b; whole = whole; key = key })
+    by_first key whole [] s = absurd (omega arith)
+    by_first key whole (b ∷ bs) s = (b, head_has (record { body = b; whole = whole; key = key }) (listed_as key whole bs))
+
+-- bodies that waited at the start wait still
+pub still_waits : {A : Type 0} (v : VisitOf A) (w : World) (me : ℕ) (start : Beginning) (bodies : List BodyValue) (accs : List A) (tally : TallyValue) (slots : List Slot) (rest waiting g : List PairValue) → Runs v w me start bodies accs tally slots rest waiting → All (Waits v w me bodies start.slots) g → All (Waits v w me bodies slots) g
+still_waits v w me start bodies accs tally slots rest waiting g r h =
+    let x : Extends start.slots slots = record { more = r.asks.more; new_is = r.asks.slots_are; unanswered = r.asks.unanswered } in
+    All-weaker (Waits v w me bodies start.slots) (Waits v w me bodies slots) (λ q k. record { opened = k.opened; away = k.away; asked = keys_extend start.slots slots q.rec.key x k.asked }) g h
+
+pub was_awake : {A : Type 0} (v : VisitOf A) (w : World) (me : ℕ) (start : Beginning) (bodies : List BodyValue) (accs : List A) (tally : TallyValue) (slots : List Slot) (rest waiting : List PairValue) → Runs v w me start bodies accs tally slots rest waiting
+    → (all ls ws more : List Held) (h : Held) (answer : Answer) → start.pairs ≡ all_listed all → 0 < length h.bodies.items → all ≡ ls ++ more → ls ≡ ws ++ h ∷ [] → stored_at slots h.key ≡ Some answer → IsAwake start.slots start.pairs h.key
+was_awake v w me start bodies accs tally slots rest waiting r all ls ws more h answer same some e f got =
+    let x : Extends start.slots slots = record { more = r.asks.more; new_is = r.asks.slots_are; unanswered = r.asks.unanswered } in (
+      subst (λ (ps : List Listed). Contains (map (λ (y : Listed). y.key) ps) h.key) (sym same) (key_there all ls ws more h some e f),
+      subst (λ (o : Option Answer). IsSome o) (sym (sym (stored_extends start.slots slots h.key x) ∙ got)) refl,
+    )
+
+-- whether any body waits
+pub some_items : (bs : List ℕ) → eqb (length bs) 0 ≡ false → 0 < length bs
+some_items [] e = absurd (let f : eqb 0 0 ≡ true = eq-eqb 0 0 refl in let y : false ≡ true = sym e ∙ f in cc)
+some_items (b ∷ bs) e = omega arith
+
+pub no_items : (bs : List ℕ) → eqb (length bs) 0 ≡ true → bs ≡ []
+no_items [] e = refl
+no_items (b ∷ bs) e = absurd (omega (arith, eqb-true (length (b ∷ bs)) 0 e))

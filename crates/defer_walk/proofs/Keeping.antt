@@ -1,5 +1,5 @@
 -- Sums, counts and traces, while pairs are replaced, moved and asked for.
-use Rattle.std.proofs.Common.{ℕ, ◌≡◌, ◌<◌, true, false, List, [], ◌∷◌, ◌++◌, length, flat_map, set, eqb, sym, refl, ap, ◌∙◌, subst, inl, inr, arith, Some, append_assoc}
+use Rattle.std.proofs.Common.{ℕ, ◌≡◌, ◌<◌, true, false, List, [], ◌∷◌, ◌++◌, length, flat_map, set, eqb, sym, refl, ap, ◌∙◌, subst, inl, inr, arith, Some}
 use Rattle.std.specs.Prelude.{All, Contains, ◌⊎◌, ◌↔◌, slice_get, sum_by}
 use Rattle.std.proofs.lemmas.Bool.{cases_eq, eq-eqb, ne_eqb}
 use Rattle.std.proofs.lemmas.Option.{slice_get_within, get_or_from_slice_get}
@@ -16,7 +16,7 @@ use Rattle.hot_model.proofs.Walks.{added-append}
 use Rattle.defer_walk.specs.declared.asks.Slot.{Slot}
 use Rattle.defer_walk.specs.Asked.{asked_keys}
 use Rattle.defer_walk.specs.Settling.{Settles, now_opened}
-use Rattle.defer_walk.specs.Tallies.{TallyValue, Notes}
+use Rattle.defer_walk.specs.Tallies.{TallyValue, Notes, IsSameTally}
 use Rattle.defer_walk.specs.Standing.{VisitOf, fold_in, opened_by, asked_by, AreStored, IsTraced, left_for, left_to_open}
 use Rattle.defer_walk.specs.Turning.{Keeps}
 use Rattle.defer_walk.proofs.Slots.{some_same, get_set_same, get_set_other}
@@ -128,30 +128,43 @@ module _ (rest : BodyValue → PairValue → List ℕ) (all : BodyValue → List
     complete = λ i b k e h. elim (t.complete i b k e h) [ inl f ↦ inl (up k f) | inr f ↦ inr f ];
   }
 
--- a pair may move from the end into the middle
-pub moved_rests : {X : Type 0} (r : PairValue → List X) (i : ℕ) (xs ys : List PairValue) (p : PairValue) (k : X) → Contains (rests_at r i (xs ++ (ys ++ p ∷ []))) k ↔ Contains (rests_at r i ((xs ++ p ∷ []) ++ ys)) k
-moved_rests {X = X} r i xs ys p k = (
-  (λ h. elim (cases xs (ys ++ p ∷ []) h) [
-    | inl f ↦ into (xs ++ p ∷ []) ys (inl (into xs (p ∷ []) (inl f)))
-    | inr f ↦ elim (cases ys (p ∷ []) f) [
-      | inl g ↦ into (xs ++ p ∷ []) ys (inr g)
-      | inr g ↦ into (xs ++ p ∷ []) ys (inl (into xs (p ∷ []) (inr g)))
-    ]
-  ]),
-  (λ h. elim (cases (xs ++ p ∷ []) ys h) [
-    | inl f ↦ elim (cases xs (p ∷ []) f) [
-      | inl g ↦ into xs (ys ++ p ∷ []) (inl g)
-      | inr g ↦ into xs (ys ++ p ∷ []) (inr (into ys (p ∷ []) (inr g)))
-    ]
-    | inr f ↦ into xs (ys ++ p ∷ []) (inr (into ys (p ∷ []) (inl f)))
-  ]),
-)
-  where
-    cases : (us vs : List PairValue) → Contains (rests_at r i (us ++ vs)) k → Contains (rests_at r i us) k ⊎ Contains (rests_at r i vs) k
-    cases us vs h = Contains-append_cases (rests_at r i us) (rests_at r i vs) k (subst (λ (ks : List X). Contains ks k) (rests-append r i us vs) h)
+-- two blocks of a list may change places
+pub All-blocks : {A : Type 0} (P : A → Type 0) (xs ys zs us : List A) → All P (xs ++ (ys ++ (zs ++ us))) → All P (xs ++ (zs ++ (ys ++ us)))
+All-blocks P xs ys zs us h =
+    let back = All-back P xs (ys ++ (zs ++ us)) h in
+    let last = All-back P ys (zs ++ us) back in
+    All-append P xs (zs ++ (ys ++ us)) (All-front P xs (ys ++ (zs ++ us)) h)
+    (All-append P zs (ys ++ us) (All-front P zs us last) (All-append P ys us (All-front P ys (zs ++ us) back) (All-back P zs us last)))
 
-    into : (us vs : List PairValue) → Contains (rests_at r i us) k ⊎ Contains (rests_at r i vs) k → Contains (rests_at r i (us ++ vs)) k
-    into us vs h = subst (λ (ks : List X). Contains ks k) (sym (rests-append r i us vs)) (elim h [ inl f ↦ Contains-append_left (rests_at r i us) (rests_at r i vs) k f | inr f ↦ Contains-append_right (rests_at r i us) (rests_at r i vs) k f ])
+module _ {X : Type 0} (r : PairValue → List X) (i : ℕ) where
+  pub rests_blocks : (xs ys zs us : List PairValue) → rests_at r i (xs ++ (ys ++ (zs ++ us))) ≡ rests_at r i xs ++ (rests_at r i ys ++ (rests_at r i zs ++ rests_at r i us))
+  rests_blocks xs ys zs us =
+      rests-append r i xs (ys ++ (zs ++ us)) ∙ ap (λ (ts : List X). rests_at r i xs ++ ts) (rests-append r i ys (zs ++ us) ∙ ap (λ (ts : List X). rests_at r i ys ++ ts) (rests-append r i zs us))
+
+  pub moved_rests : (xs ys zs us : List PairValue) (k : X) → Contains (rests_at r i (xs ++ (ys ++ (zs ++ us)))) k → Contains (rests_at r i (xs ++ (zs ++ (ys ++ us)))) k
+  moved_rests xs ys zs us k h =
+      let a = rests_at r i xs in
+      let b = rests_at r i ys in
+      let c = rests_at r i zs in
+      let d = rests_at r i us in
+      subst (λ (ks : List X). Contains ks k) (sym (rests_blocks xs zs ys us))
+      (elim (Contains-append_cases a (b ++ (c ++ d)) k (subst (λ (ks : List X). Contains ks k) (rests_blocks xs ys zs us) h)) [
+        | inl f ↦ Contains-append_left a (c ++ (b ++ d)) k f
+        | inr f ↦ Contains-append_right a (c ++ (b ++ d)) k (elim (Contains-append_cases b (c ++ d) k f) [
+          | inl g ↦ Contains-append_right c (b ++ d) k (Contains-append_left b d k g)
+          | inr g ↦ elim (Contains-append_cases c d k g) [
+            | inl m ↦ Contains-append_left c (b ++ d) k m
+            | inr m ↦ Contains-append_right c (b ++ d) k (Contains-append_right b d k m)
+          ]
+        ])
+      ])
+
+added-blocks : {A : Type 0} (add : A → Term → A) → MaySwap add → (a : A) (xs ys zs us : List Term) → added add a (xs ++ (ys ++ (zs ++ us))) ≡ added add a (xs ++ (zs ++ (ys ++ us)))
+added-blocks {A = A} add m a xs ys zs us =
+    let o = added add a xs in
+    added-append add a xs (ys ++ (zs ++ us)) ∙ added-append add o ys (zs ++ us) ∙ added-append add (added add o ys) zs us
+    ∙ ap (λ (x : A). added add x us) (added-exchange add m o ys zs)
+    ∙ sym (added-append add (added add o zs) ys us) ∙ sym (added-append add o zs (ys ++ us)) ∙ sym (added-append add a xs (zs ++ (ys ++ us)))
 
 -- what one visit keeps
 module _ {A : Type 0} (v : VisitOf A) (w : World) (me : ℕ) (bodies : List BodyValue) where
@@ -230,43 +243,47 @@ module _ {A : Type 0} (v : VisitOf A) (w : World) (me : ℕ) (bodies : List Body
       };
     }
 
-    -- the pair at the end moved into the middle
-    pub keeps_moved : (accs : List A) (tally : TallyValue) (slots : List Slot) (xs ys : List PairValue) (p : PairValue) → Keeps v w me bodies accs tally slots (xs ++ (ys ++ p ∷ [])) → Keeps v w me bodies accs tally slots ((xs ++ p ∷ []) ++ ys)
-    keeps_moved accs tally slots xs ys p r = record {
+    -- two blocks of pairs may change places
+    pub keeps_blocks : (accs : List A) (tally : TallyValue) (slots : List Slot) (xs ys zs us : List PairValue) → Keeps v w me bodies accs tally slots (xs ++ (ys ++ (zs ++ us))) → Keeps v w me bodies accs tally slots (xs ++ (zs ++ (ys ++ us)))
+    keeps_blocks accs tally slots xs ys zs us r = record {
       store = r.store;
       balance = record {
         long = r.balance.long;
         none = r.balance.none;
-        places = moved (λ q. q.body < length bodies) r.balance.places;
-        cells = moved (IsPair w) r.balance.cells;
+        places = All-blocks (λ q. q.body < length bodies) xs ys zs us r.balance.places;
+        cells = All-blocks (IsPair w) xs ys zs us r.balance.cells;
         sums = λ i b a eb ea.
             let f = rest_of (v.opens b) w in
-            let x = rests_at f i xs in
-            let y = rests_at f i ys in
-            let z = rests_at f i (p ∷ []) in
-            ap (added (v.adds b) a) (rests-append f i (xs ++ p ∷ []) ys ∙ ap (λ (ts : List Term). ts ++ y) (rests-append f i xs (p ∷ [])) ∙ append_assoc x z y)
-            ∙ added-append (v.adds b) a x (z ++ y)
-            ∙ added-append (v.adds b) (added (v.adds b) a x) z y
-            ∙ added-exchange (v.adds b) (swap b) (added (v.adds b) a x) z y
-            ∙ sym (added-append (v.adds b) (added (v.adds b) a x) y z)
-            ∙ sym (added-append (v.adds b) a x (y ++ z))
-            ∙ ap (added (v.adds b) a) (ap (λ (ts : List Term). x ++ ts) (sym (rests-append f i ys (p ∷ []))) ∙ sym (rests-append f i xs (ys ++ p ∷ [])))
+            ap (added (v.adds b) a) (rests_blocks f i xs zs ys us)
+            ∙ added-blocks (v.adds b) (swap b) a (rests_at f i xs) (rests_at f i zs) (rests_at f i ys) (rests_at f i us)
+            ∙ ap (added (v.adds b) a) (sym (rests_blocks f i xs ys zs us))
             ∙ r.balance.sums i b a eb ea;
       };
       count = record {
         opened =
             let g = left_to_open v w bodies in
             let whole = r.count.opened in
-            omega (arith, whole, sum_by-append g (xs ++ p ∷ []) ys, sum_by-append g xs (p ∷ []), sum_by-append g xs (ys ++ p ∷ []), sum_by-append g ys (p ∷ []));
-        cells = traced_moved (λ b. still_opened (v.opens b) w) (opened_by v w) bodies tally.cells (xs ++ (ys ++ p ∷ [])) ((xs ++ p ∷ []) ++ ys) (λ f i k. moved_rests f i xs ys p k) r.count.cells;
-        asks = traced_moved (λ b. still_asked (v.opens b) w me) (asked_by v w me) bodies (asked_keys slots) (xs ++ (ys ++ p ∷ [])) ((xs ++ p ∷ []) ++ ys) (λ f i k. moved_rests f i xs ys p k) r.count.asks;
+            omega (arith, whole, sum_by-append g xs (ys ++ (zs ++ us)), sum_by-append g ys (zs ++ us), sum_by-append g zs us, sum_by-append g xs (zs ++ (ys ++ us)), sum_by-append g zs (ys ++ us), sum_by-append g ys us);
+        cells = traced_moved (λ b. still_opened (v.opens b) w) (opened_by v w) bodies tally.cells (xs ++ (ys ++ (zs ++ us))) (xs ++ (zs ++ (ys ++ us))) (λ f i k. (moved_rests f i xs ys zs us k, moved_rests f i xs zs ys us k)) r.count.cells;
+        asks = traced_moved (λ b. still_asked (v.opens b) w me) (asked_by v w me) bodies (asked_keys slots) (xs ++ (ys ++ (zs ++ us))) (xs ++ (zs ++ (ys ++ us))) (λ f i k. (moved_rests f i xs ys zs us k, moved_rests f i xs zs ys us k)) r.count.asks;
       };
     }
-      where
-        moved : (P : PairValue → Type 0) → All P (xs ++ (ys ++ p ∷ [])) → All P ((xs ++ p ∷ []) ++ ys)
-        moved P h =
-            let back = All-back P xs (ys ++ p ∷ []) h in
-            All-append P (xs ++ p ∷ []) ys (All-append P xs (p ∷ []) (All-front P xs (ys ++ p ∷ []) h) (All-back P ys (p ∷ []) back)) (All-front P ys (p ∷ []) back)
+
+    -- the tally may be another one with the same number and cells
+    pub keeps_tally : (accs : List A) (tally tally' : TallyValue) (slots : List Slot) (pairs : List PairValue) → IsSameTally tally tally' → Keeps v w me bodies accs tally slots pairs → Keeps v w me bodies accs tally' slots pairs
+    keeps_tally accs tally tally' slots pairs same r = record {
+      store = r.store;
+      balance = r.balance;
+      count = record {
+        opened = omega (arith, same.count, r.count.opened);
+        cells = record {
+          sound = λ k h. r.count.cells.sound k ((same.has k).0 h);
+          rests = r.count.cells.rests;
+          complete = λ i b k e h. elim (r.count.cells.complete i b k e h) [ inl f ↦ inl ((same.has k).1 f) | inr f ↦ inr f ];
+        };
+        asks = r.count.asks;
+      };
+    }
 
     -- more cells were asked for, that bodies ask for
     pub keeps_asked : (accs : List A) (tally : TallyValue) (slots slots' : List Slot) (pairs : List PairValue) → AreStored v w me slots' → ((k : ℕ) → Contains (asked_keys slots) k → Contains (asked_keys slots') k)

@@ -5,9 +5,12 @@ pub mod Indexed
 pub mod Keeping
 pub mod Openings
 pub mod Turnings
+pub mod Blocks
+pub mod Descents
 pub mod Advances
-pub mod Walking
-pub mod Beginnings
 pub mod Distinct
 pub mod Listings
 pub mod Masses
+pub mod Walking
+pub mod Beginnings
+pub mod Remotes

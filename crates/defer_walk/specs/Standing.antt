@@ -1,5 +1,5 @@
 -- What a deferred walk holds, and what it means that it stands for a world.
-use Rattle.std.specs.Prelude.{ℕ, zero, suc, ◌≡◌, ◌≢◌, ◌+◌, ◌<◌, ◌≤◌, Bool, true, false, List, [], ◌∷◌, ◌++◌, length, map, take, sum_by, All, Contains, Option, Some, None, IfSome, IsSome, slice_get, ◌⊎◌}
+use Rattle.std.specs.Prelude.{ℕ, zero, suc, ◌≡◌, ◌≢◌, ◌+◌, ◌<◌, ◌≤◌, Bool, true, false, List, [], ◌∷◌, ◌++◌, length, map, take, sum_by, All, Contains, Option, Some, None, IfSome, IsSome, slice_get, ◌⊎◌, if◌then◌else◌}
 use Rattle.hot_model.specs.Values.{BodyValue, CellValue}
 use Rattle.hot_model.specs.Keys.{IsCell}
 use Rattle.hot_model.specs.Trees.{Term, mass_of_term, mass_of, added, fold_of, opened, cell_record}
@@ -14,6 +14,8 @@ use Rattle.defer_walk.specs.declared.asks.Slot.{Slot}
 use Rattle.defer_walk.specs.declared.progress.Progress.{Progress}
 use Rattle.defer_walk.specs.declared.progress.Progress.TheVariants.{Done, Waiting}
 use Rattle.defer_walk.specs.declared.listed.Listed.{Listed}
+use Rattle.defer_walk.specs.declared.held.Held.{Held}
+use Rattle.defer_walk.specs.Grouping.{all_listed}
 use Rattle.defer_walk.specs.Asked.{asked_keys, stored_at}
 use Rattle.defer_walk.specs.Settling.{IsOpened}
 use Rattle.defer_walk.specs.Tallies.{TallyValue}
@@ -134,6 +136,10 @@ abbrev pub roots : ℕ → List Listed
 roots zero = []
 roots (suc n) = roots n ++ (record { body = n; whole = false; key = 1 }) ∷ []
 
+-- the pairs that are left: before the first advance all bodies with the root, and later those that wait
+abbrev pub left_by : Bool → ℕ → List Held → List Listed
+left_by advanced n held = if advanced then all_listed held else roots n
+
 -- nothing was done yet
 pub record IsFresh {V A : Type 0} (nothing : A) (s : WalkState V A) : Type 0 where
   pub pairs : s.pairs ≡ []
@@ -159,6 +165,14 @@ pub record Stands {V A : Type 0} (v : VisitOf A) (w : World) (s : WalkState V A)
 -- the walk stands for a world, by the meanings of its visit
 abbrev pub StandsFor : {V A : Type 0} → (V → A) → (V → BodyValue → A → Term → A) → (V → BodyValue → CellValue → Bool) → (A → ℕ) → World → WalkState V A → Type 0
 StandsFor nothing adds opens seen w s = Stands (meaning nothing adds opens seen s.visit) w s
+
+-- a cell that is asked for: one below the root with bodies, and its owner, another rank of the world
+pub record IsRemote (w : World) (me owner key : ℕ) : Type 0 where
+  pub cell : IsCell key
+  pub below : 1 < key
+  pub some : 0 < length (bodies_in w key)
+  pub rank : owner < w.ranks
+  pub other : owner ≢ me
 
 -- what no call but `new` sets
 pub record IsSameWalk {V A : Type 0} (old new : WalkState V A) : Type 0 where

@@ -1,51 +1,26 @@
-ghost use Rattle.std.specs.Prelude.{◌≡◌, ℕ, ◌+◌, ◌-◌, ◌<◌, ◌≤◌, ◌^◌, Bool, false, true, List, [], ◌∷◌, Some, IfOk, OnOk, length, map, ◌++◌, slice_get, All, if◌then◌else◌};
+ghost use Rattle.std.specs.Prelude.{◌≡◌, ℕ, ◌+◌, ◌-◌, ◌<◌, ◌≤◌, ◌^◌, Bool, false, true, List, [], ◌∷◌, ◌++◌, Some, IfOk, OnOk, length, All};
 ghost use Rattle.hot_model.specs.Limits.{max_all_mass};
-ghost use Rattle.hot_model.specs.Trees.{mass_of};
-ghost use Rattle.hot_model.specs.World.{World, IsGood, record_in, bodies_in, piece as piece_of};
+ghost use Rattle.hot_model.specs.World.{World, IsGood, record_in, piece as piece_of};
 ghost use Rattle.hot_model.specs.Answers.{true_answer};
-ghost use Rattle.hot_model.specs.Needs.{is_away};
-ghost use Rattle.hot_model.specs.Pairs.{PairValue, IsPair, pair_with};
-ghost use Rattle.defer_walk.specs.Settling.{IsOpened, Wakes};
-ghost use Rattle.defer_walk.specs.Tallies.{Notes};
-ghost use Rattle.defer_walk.specs.Asked.{Extends};
-ghost use Rattle.defer_walk.specs.Standing.{meaning, AreStored, AreRoots, Waits, pair_in, pairs_in, roots};
-ghost use Rattle.defer_walk.specs.Turning.{Beginning, Runs, AreReady};
+ghost use Rattle.hot_model.specs.Pairs.{PairValue, pair_with};
+ghost use Rattle.defer_walk.specs.declared.asks.Slot.{Slot};
+ghost use Rattle.defer_walk.specs.Asked.{stored_at, Extends};
+ghost use Rattle.defer_walk.specs.Grouping.{group, by_children, AreOpened, listed_of, all_listed};
+ghost use Rattle.defer_walk.specs.Standing.{meaning, AreStored, Waits, IsAwake, pairs_in, roots, left_by};
+ghost use Rattle.defer_walk.specs.Turning.{Beginning, ComesFrom, Runs, AreReady};
 
-use crate::answers::{near_all, push_all};
 use crate::asks::Asks;
 use crate::cells::Cells;
-use crate::listed::{Listed, Pair, pair_of};
+use crate::groups::{descend, descend_all, near_group, note_all};
+use crate::held::{Held, count_held, list_places};
 use crate::tally::Tally;
-use crate::turns::work_off;
 use hot_model::{Answer, Body, CellRec, Seen, Visit};
 use std::alloc::{AllocError, Global};
 
-/// What becomes of a pair whose cell was answered: pairs of the children, to be tested, or the bodies of a leaf.
-fn wake<V: Visit>(
-    visit: &V,
-    b: &Body,
-    listed: &Listed,
-    answer: &Answer,
-    acc: &mut V::Acc,
-    tally: &mut Tally,
-    work: &mut Vec<Pair>,
-) -> Result<(), AllocError>
-    requires room { tally.old.opened < 2 ^ 64 - 1 }
-    requires light { (w : World) × (answer.now ≡ true_answer w listed.now.key) × (V.Acc.seen_of acc.old + mass_of (bodies_in w listed.now.key) ≤ max_all_mass) }
-    ensures settled { OnOk result ((w : World) (me : ℕ) → IsPair w (pair_in w listed.now) → IsOpened (V.opens_by visit.now b.now) (pair_in w listed.now) → is_away w me listed.now.key ≡ true → answer.now ≡ true_answer w listed.now.key → Wakes (V.adds visit.now b.now) (V.opens_by visit.now b.now) w me (pair_in w listed.now) acc.old acc.new work.old.items work.new.items) }
-    ensures noted { OnOk result (Notes tally.old tally.new (if listed.now.whole then [] else (listed.now.key ∷ []))) }
-{
-    match answer {
-        Answer::Bodies(others) => near_all(visit, b, acc, others.as_slice())?,
-        Answer::Children(recs) => push_all(work, listed.body, recs.as_slice())?,
-    }
-    if !listed.whole {
-        tally.note(listed.key)?;
-    }
-    Ok(())
-}
+/// So many bodies at most go down the tree together, so that their places stay few and near.
+const CHUNK: u32 = 4096;
 
-/// The first advance: each body goes down from the root as far as the rank has the tree.
+/// The first advance: all bodies go down from the root as far as the rank has the tree, chunk by chunk from the last.
 pub fn begin<V: Visit, C: Cells>(
     alloc: Global,
     visit: &V,
@@ -55,23 +30,72 @@ pub fn begin<V: Visit, C: Cells>(
     accs: &mut [V::Acc],
     tally: &mut Tally,
     asks: &mut Asks,
-    pairs: &mut Vec<Listed>,
-    waiting: &mut Vec<Listed>,
+    held: &mut Vec<Held>,
 ) -> Result<(), AllocError>
-    requires fits { (w : World) × (me : ℕ) × (start : Beginning) × C.stands cells.now w me × IsGood w × (piece.now ≡ piece_of w me) × Runs (meaning V.zero_of V.adds V.opens_by V.Acc.seen_of visit.now) w me start piece.now accs.old tally.old asks.old (pairs_in w pairs.old.items) [] (pairs_in w waiting.old.items) × (start.advanced ≡ false) × AreRoots pairs.old.items × (record_in w 1 ≡ Some root) }
-    ensures stored { (w : World) (me : ℕ) (start : Beginning) → C.stands cells.now w me → IsGood w → piece.now ≡ piece_of w me → (start.advanced ≡ false) → AreRoots pairs.old.items → (record_in w 1 ≡ Some root) → Runs (meaning V.zero_of V.adds V.opens_by V.Acc.seen_of visit.now) w me start piece.now accs.old tally.old asks.old (pairs_in w pairs.old.items) [] (pairs_in w waiting.old.items) → AreStored (meaning V.zero_of V.adds V.opens_by V.Acc.seen_of visit.now) w me asks.new }
+    requires fits { (w : World) × (me : ℕ) × (start : Beginning) × C.stands cells.now w me × IsGood w × (piece.now ≡ piece_of w me) × Runs (meaning V.zero_of V.adds V.opens_by V.Acc.seen_of visit.now) w me start piece.now accs.old tally.old asks.old (pairs_in w (roots (length piece.now))) (pairs_in w (all_listed held.old.items)) × (start.advanced ≡ false) × (record_in w 1 ≡ Some root) }
+    ensures stored { (w : World) (me : ℕ) (start : Beginning) → C.stands cells.now w me → IsGood w → piece.now ≡ piece_of w me → (start.advanced ≡ false) → (record_in w 1 ≡ Some root) → Runs (meaning V.zero_of V.adds V.opens_by V.Acc.seen_of visit.now) w me start piece.now accs.old tally.old asks.old (pairs_in w (roots (length piece.now))) (pairs_in w (all_listed held.old.items)) → AreStored (meaning V.zero_of V.adds V.opens_by V.Acc.seen_of visit.now) w me asks.new }
     ensures extends { Extends asks.old asks.new }
-    ensures runs { OnOk result ((w : World) (me : ℕ) (start : Beginning) → C.stands cells.now w me → IsGood w → piece.now ≡ piece_of w me → (start.advanced ≡ false) → AreRoots pairs.old.items → (record_in w 1 ≡ Some root) → Runs (meaning V.zero_of V.adds V.opens_by V.Acc.seen_of visit.now) w me start piece.now accs.old tally.old asks.old (pairs_in w pairs.old.items) [] (pairs_in w waiting.old.items) → Runs (meaning V.zero_of V.adds V.opens_by V.Acc.seen_of visit.now) w me start piece.now accs.new tally.new asks.new [] [] (pairs_in w waiting.new.items)) }
+    ensures runs { OnOk result ((w : World) (me : ℕ) (start : Beginning) → C.stands cells.now w me → IsGood w → piece.now ≡ piece_of w me → (start.advanced ≡ false) → (record_in w 1 ≡ Some root) → Runs (meaning V.zero_of V.adds V.opens_by V.Acc.seen_of visit.now) w me start piece.now accs.old tally.old asks.old (pairs_in w (roots (length piece.now))) (pairs_in w (all_listed held.old.items)) → Runs (meaning V.zero_of V.adds V.opens_by V.Acc.seen_of visit.now) w me start piece.now accs.new tally.new asks.new [] (pairs_in w (all_listed held.new.items))) }
 {
-    let mut work = Vec::new(alloc);
-    while let Some(listed) = pairs.pop() {
-        work.push(pair_of(listed.body, root, false))?;
-        work_off(visit, cells, piece, accs, tally, asks, &mut work, waiting)?;
+    let mut leaf = Vec::new(alloc);
+    let mut to = piece.len() as u32;
+    while to > 0 {
+        let from = to.saturating_sub(CHUNK);
+        let mut places = list_places(alloc, from, to)?;
+        descend(
+            alloc,
+            visit,
+            cells,
+            piece,
+            accs,
+            tally,
+            asks,
+            held,
+            &mut leaf,
+            &mut places,
+            0,
+            root,
+            false,
+        )?;
+        to = from;
     }
     Ok(())
 }
 
-/// A later advance: each pair whose cell was answered goes on, and the others still wait.
+/// What becomes of bodies whose cell was answered: the bodies of a leaf are added, or `recs` are the children to be
+/// tested.
+fn wake<V: Visit>(
+    visit: &V,
+    piece: &[Body],
+    accs: &mut [V::Acc],
+    tally: &mut Tally,
+    waits: &Held,
+    answer: &Answer,
+    recs: &mut Vec<CellRec>,
+) -> Result<(), AllocError>
+    requires fits { (w : World) × (me : ℕ) × (start : Beginning) × (slots : List Slot) × (keep waiting : List PairValue) × IsGood w × (piece.now ≡ piece_of w me) × (stored_at slots waits.now.key ≡ Some answer.now) × All (Waits (meaning V.zero_of V.adds V.opens_by V.Acc.seen_of visit.now) w me piece.now start.slots) (pairs_in w (listed_of waits.now)) × (start.advanced ≡ true) × IsAwake start.slots start.pairs waits.now.key × Runs (meaning V.zero_of V.adds V.opens_by V.Acc.seen_of visit.now) w me start piece.now accs.old tally.old slots (keep ++ pairs_in w (listed_of waits.now)) waiting }
+    ensures woken { OnOk result ((w : World) (me : ℕ) (start : Beginning) (slots : List Slot) (keep waiting : List PairValue) → IsGood w → piece.now ≡ piece_of w me → stored_at slots waits.now.key ≡ Some answer.now → All (Waits (meaning V.zero_of V.adds V.opens_by V.Acc.seen_of visit.now) w me piece.now start.slots) (pairs_in w (listed_of waits.now)) → (start.advanced ≡ true) → IsAwake start.slots start.pairs waits.now.key → Runs (meaning V.zero_of V.adds V.opens_by V.Acc.seen_of visit.now) w me start piece.now accs.old tally.old slots (keep ++ pairs_in w (listed_of waits.now)) waiting → Runs (meaning V.zero_of V.adds V.opens_by V.Acc.seen_of visit.now) w me start piece.now accs.new tally.new slots (keep ++ by_children false waits.now.bodies.items recs.new.items) waiting × All (λ r. ComesFrom start.advanced w me start (pair_with 0 false r)) recs.new.items) }
+{
+    recs.clear();
+    match answer {
+        Answer::Bodies(others) => {
+            near_group(
+                visit,
+                piece,
+                accs,
+                waits.bodies.as_slice(),
+                others.as_slice(),
+            )?;
+            note_all(tally, waits.whole, waits.key, waits.bodies.len())
+        }
+        Answer::Children(children) => {
+            recs.extend_from_slice(children.as_slice())?;
+            note_all(tally, waits.whole, waits.key, waits.bodies.len())
+        }
+    }
+}
+
+/// A later advance: the bodies whose cell was answered go on, and the others still wait.
 pub fn resume<V: Visit, C: Cells>(
     alloc: Global,
     visit: &V,
@@ -80,37 +104,47 @@ pub fn resume<V: Visit, C: Cells>(
     accs: &mut [V::Acc],
     tally: &mut Tally,
     asks: &mut Asks,
-    pairs: &mut Vec<Listed>,
-    waiting: &mut Vec<Listed>,
+    waits: &mut Vec<Held>,
+    held: &mut Vec<Held>,
 ) -> Result<(), AllocError>
-    requires fits { (w : World) × (me : ℕ) × (start : Beginning) × C.stands cells.now w me × IsGood w × (piece.now ≡ piece_of w me) × Runs (meaning V.zero_of V.adds V.opens_by V.Acc.seen_of visit.now) w me start piece.now accs.old tally.old asks.old (pairs_in w pairs.old.items) [] (pairs_in w waiting.old.items) × (start.advanced ≡ true) × (start.pairs ≡ pairs.old.items) × All (Waits (meaning V.zero_of V.adds V.opens_by V.Acc.seen_of visit.now) w me piece.now start.slots) (pairs_in w pairs.old.items) }
-    ensures stored { (w : World) (me : ℕ) (start : Beginning) → C.stands cells.now w me → IsGood w → piece.now ≡ piece_of w me → (start.advanced ≡ true) → (start.pairs ≡ pairs.old.items) → All (Waits (meaning V.zero_of V.adds V.opens_by V.Acc.seen_of visit.now) w me piece.now start.slots) (pairs_in w pairs.old.items) → Runs (meaning V.zero_of V.adds V.opens_by V.Acc.seen_of visit.now) w me start piece.now accs.old tally.old asks.old (pairs_in w pairs.old.items) [] (pairs_in w waiting.old.items) → AreStored (meaning V.zero_of V.adds V.opens_by V.Acc.seen_of visit.now) w me asks.new }
+    requires fits { (w : World) × (me : ℕ) × (start : Beginning) × C.stands cells.now w me × IsGood w × (piece.now ≡ piece_of w me) × Runs (meaning V.zero_of V.adds V.opens_by V.Acc.seen_of visit.now) w me start piece.now accs.old tally.old asks.old (pairs_in w (all_listed waits.old.items)) (pairs_in w (all_listed held.old.items)) × (start.advanced ≡ true) × (start.pairs ≡ all_listed waits.old.items) × All (Waits (meaning V.zero_of V.adds V.opens_by V.Acc.seen_of visit.now) w me piece.now start.slots) (pairs_in w (all_listed waits.old.items)) }
+    ensures stored { (w : World) (me : ℕ) (start : Beginning) → C.stands cells.now w me → IsGood w → piece.now ≡ piece_of w me → (start.advanced ≡ true) → (start.pairs ≡ all_listed waits.old.items) → All (Waits (meaning V.zero_of V.adds V.opens_by V.Acc.seen_of visit.now) w me piece.now start.slots) (pairs_in w (all_listed waits.old.items)) → Runs (meaning V.zero_of V.adds V.opens_by V.Acc.seen_of visit.now) w me start piece.now accs.old tally.old asks.old (pairs_in w (all_listed waits.old.items)) (pairs_in w (all_listed held.old.items)) → AreStored (meaning V.zero_of V.adds V.opens_by V.Acc.seen_of visit.now) w me asks.new }
     ensures extends { Extends asks.old asks.new }
-    ensures runs { OnOk result ((w : World) (me : ℕ) (start : Beginning) → C.stands cells.now w me → IsGood w → piece.now ≡ piece_of w me → (start.advanced ≡ true) → (start.pairs ≡ pairs.old.items) → All (Waits (meaning V.zero_of V.adds V.opens_by V.Acc.seen_of visit.now) w me piece.now start.slots) (pairs_in w pairs.old.items) → Runs (meaning V.zero_of V.adds V.opens_by V.Acc.seen_of visit.now) w me start piece.now accs.old tally.old asks.old (pairs_in w pairs.old.items) [] (pairs_in w waiting.old.items) → Runs (meaning V.zero_of V.adds V.opens_by V.Acc.seen_of visit.now) w me start piece.now accs.new tally.new asks.new [] [] (pairs_in w waiting.new.items)) }
+    ensures runs { OnOk result ((w : World) (me : ℕ) (start : Beginning) → C.stands cells.now w me → IsGood w → piece.now ≡ piece_of w me → (start.advanced ≡ true) → (start.pairs ≡ all_listed waits.old.items) → All (Waits (meaning V.zero_of V.adds V.opens_by V.Acc.seen_of visit.now) w me piece.now start.slots) (pairs_in w (all_listed waits.old.items)) → Runs (meaning V.zero_of V.adds V.opens_by V.Acc.seen_of visit.now) w me start piece.now accs.old tally.old asks.old (pairs_in w (all_listed waits.old.items)) (pairs_in w (all_listed held.old.items)) → Runs (meaning V.zero_of V.adds V.opens_by V.Acc.seen_of visit.now) w me start piece.now accs.new tally.new asks.new [] (pairs_in w (all_listed held.new.items))) }
 {
-    let mut work = Vec::new(alloc);
-    while let Some(listed) = pairs.pop() {
-        match asks.answer(listed.key) {
-            None => waiting.push(listed)?,
+    let mut leaf = Vec::new(alloc);
+    let mut recs = Vec::new(alloc);
+    let mut places = Vec::new(alloc);
+    while let Some(waits_here) = waits.pop() {
+        if waits_here.bodies.is_empty() {
+            continue;
+        }
+        match asks.answer(waits_here.key) {
+            None => held.push(waits_here)?,
             Some(answer) => {
-                let at = listed.body as usize;
-                wake(
+                wake(visit, piece, accs, tally, &waits_here, answer, &mut recs)?;
+                places.clear();
+                places.extend_from_slice(waits_here.bodies.as_slice())?;
+                descend_all(
+                    alloc,
                     visit,
-                    &piece[at],
-                    &listed,
-                    answer,
-                    &mut accs[at],
+                    cells,
+                    piece,
+                    accs,
                     tally,
-                    &mut work,
+                    asks,
+                    held,
+                    &mut leaf,
+                    &mut places,
+                    &mut recs,
                 )?;
-                work_off(visit, cells, piece, accs, tally, asks, &mut work, waiting)?;
             }
         }
     }
     Ok(())
 }
 
-/// An advance: the first one from the root, later ones from the pairs that wait.
+/// An advance: the first one from the root, later ones from the bodies that wait. It answers how many pairs wait then.
 pub fn go_on<V: Visit, C: Cells>(
     alloc: Global,
     advanced: bool,
@@ -120,25 +154,23 @@ pub fn go_on<V: Visit, C: Cells>(
     accs: &mut [V::Acc],
     tally: &mut Tally,
     asks: &mut Asks,
-    pairs: &mut Vec<Listed>,
-    waiting: &mut Vec<Listed>,
-) -> Result<(), AllocError>
-    requires fits { (w : World) × (me : ℕ) × (start : Beginning) × C.stands cells.now w me × IsGood w × (piece.now ≡ piece_of w me) × Runs (meaning V.zero_of V.adds V.opens_by V.Acc.seen_of visit.now) w me start piece.now accs.old tally.old asks.old (pairs_in w pairs.old.items) [] (pairs_in w waiting.old.items) × (start.advanced ≡ advanced) × (start.pairs ≡ pairs.old.items) × AreReady advanced (meaning V.zero_of V.adds V.opens_by V.Acc.seen_of visit.now) w me piece.now start.slots pairs.old.items }
-    ensures stored { (w : World) (me : ℕ) (start : Beginning) → C.stands cells.now w me → IsGood w → piece.now ≡ piece_of w me → start.advanced ≡ advanced → start.pairs ≡ pairs.old.items → AreReady advanced (meaning V.zero_of V.adds V.opens_by V.Acc.seen_of visit.now) w me piece.now start.slots pairs.old.items → Runs (meaning V.zero_of V.adds V.opens_by V.Acc.seen_of visit.now) w me start piece.now accs.old tally.old asks.old (pairs_in w pairs.old.items) [] (pairs_in w waiting.old.items) → AreStored (meaning V.zero_of V.adds V.opens_by V.Acc.seen_of visit.now) w me asks.new }
+    waits: &mut Vec<Held>,
+    held: &mut Vec<Held>,
+) -> Result<u64, AllocError>
+    requires fits { (w : World) × (me : ℕ) × (start : Beginning) × C.stands cells.now w me × IsGood w × (piece.now ≡ piece_of w me) × Runs (meaning V.zero_of V.adds V.opens_by V.Acc.seen_of visit.now) w me start piece.now accs.old tally.old asks.old (pairs_in w (left_by advanced (length piece.now) waits.old.items)) (pairs_in w (all_listed held.old.items)) × (start.advanced ≡ advanced) × (start.pairs ≡ left_by advanced (length piece.now) waits.old.items) × AreReady advanced (meaning V.zero_of V.adds V.opens_by V.Acc.seen_of visit.now) w me piece.now start.slots (left_by advanced (length piece.now) waits.old.items) }
+    ensures stored { (w : World) (me : ℕ) (start : Beginning) → C.stands cells.now w me → IsGood w → piece.now ≡ piece_of w me → start.advanced ≡ advanced → start.pairs ≡ left_by advanced (length piece.now) waits.old.items → AreReady advanced (meaning V.zero_of V.adds V.opens_by V.Acc.seen_of visit.now) w me piece.now start.slots (left_by advanced (length piece.now) waits.old.items) → Runs (meaning V.zero_of V.adds V.opens_by V.Acc.seen_of visit.now) w me start piece.now accs.old tally.old asks.old (pairs_in w (left_by advanced (length piece.now) waits.old.items)) (pairs_in w (all_listed held.old.items)) → AreStored (meaning V.zero_of V.adds V.opens_by V.Acc.seen_of visit.now) w me asks.new }
     ensures extends { Extends asks.old asks.new }
-    ensures runs { OnOk result ((w : World) (me : ℕ) (start : Beginning) → C.stands cells.now w me → IsGood w → piece.now ≡ piece_of w me → start.advanced ≡ advanced → start.pairs ≡ pairs.old.items → AreReady advanced (meaning V.zero_of V.adds V.opens_by V.Acc.seen_of visit.now) w me piece.now start.slots pairs.old.items → Runs (meaning V.zero_of V.adds V.opens_by V.Acc.seen_of visit.now) w me start piece.now accs.old tally.old asks.old (pairs_in w pairs.old.items) [] (pairs_in w waiting.old.items) → Runs (meaning V.zero_of V.adds V.opens_by V.Acc.seen_of visit.now) w me start piece.now accs.new tally.new asks.new [] [] (pairs_in w waiting.new.items)) }
+    ensures runs { OnOk result ((w : World) (me : ℕ) (start : Beginning) → C.stands cells.now w me → IsGood w → piece.now ≡ piece_of w me → start.advanced ≡ advanced → start.pairs ≡ left_by advanced (length piece.now) waits.old.items → AreReady advanced (meaning V.zero_of V.adds V.opens_by V.Acc.seen_of visit.now) w me piece.now start.slots (left_by advanced (length piece.now) waits.old.items) → Runs (meaning V.zero_of V.adds V.opens_by V.Acc.seen_of visit.now) w me start piece.now accs.old tally.old asks.old (pairs_in w (left_by advanced (length piece.now) waits.old.items)) (pairs_in w (all_listed held.old.items)) → Runs (meaning V.zero_of V.adds V.opens_by V.Acc.seen_of visit.now) w me start piece.now accs.new tally.new asks.new [] (pairs_in w (all_listed held.new.items))) }
+    ensures count { IfOk result (λ n. n ≡ length (all_listed held.new.items)) }
 {
     if advanced {
-        return resume(
-            alloc, visit, cells, piece, accs, tally, asks, pairs, waiting,
-        );
+        resume(alloc, visit, cells, piece, accs, tally, asks, waits, held)?;
+        return count_held(held);
     }
-    match cells.root() {
-        None => Ok(()),
-        Some(root) => begin(
-            alloc, visit, cells, root, piece, accs, tally, asks, pairs, waiting,
-        ),
+    if let Some(root) = cells.root() {
+        begin(alloc, visit, cells, root, piece, accs, tally, asks, held)?;
     }
+    count_held(held)
 }
 
 /// As many empty accumulators.
@@ -157,20 +189,3 @@ pub fn nothing_added<V: Visit>(
     }
     Ok(accs)
 }
-
-/// Lists each body with the root.
-pub fn list_roots(pairs: &mut Vec<Listed>, bodies: u32) -> Result<(), AllocError>
-    ensures value { OnOk result (pairs.new.items ≡ pairs.old.items ++ roots bodies) }
-{
-    for body in 0..bodies {
-        pairs.push(Listed {
-            body,
-            whole: false,
-            key: ROOT_KEY,
-        })?;
-    }
-    Ok(())
-}
-
-/// The key of the root.
-pub const ROOT_KEY: u64 = 1;

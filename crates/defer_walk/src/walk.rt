@@ -6,13 +6,13 @@ ghost use Rattle.hot_model.specs.Branches.{IsBranch, IsOwner, parent};
 ghost use Rattle.hot_model.specs.Needs.{Needs, needed};
 ghost use Rattle.hot_model.specs.Answers.{true_answer};
 ghost use Rattle.defer_walk.specs.Asked.{asked_keys, filled, Extends};
-ghost use Rattle.defer_walk.specs.Standing.{StandsFor, Waits, IsSameWalk, IsSameStage, IsNewAsk, IsProgress, given_of, answer_of, meaning, fold_in, opened_by, pairs_in};
+ghost use Rattle.defer_walk.specs.Standing.{StandsFor, Waits, IsSameWalk, IsSameStage, IsNewAsk, IsRemote, IsProgress, given_of, answer_of, meaning, fold_in, opened_by, pairs_in};
 
 use crate::asks::Asks;
 use crate::cells::Cells;
-use crate::listed::Listed;
+use crate::held::Held;
 use crate::progress::{Ask, Progress, WalkResult};
-use crate::stages::{go_on, list_roots, nothing_added};
+use crate::stages::{go_on, nothing_added};
 use crate::tally::Tally;
 use hot_model::{Answered, Body, Visit};
 use std::alloc::{AllocError, Global};
@@ -26,7 +26,8 @@ pub struct Walk<V: Visit> {
     visit: V,
     piece: Vec<Body>,
     accs: Vec<V::Acc>,
-    pairs: Vec<Listed>,
+    held: Vec<Held>,
+    left: u64,
     asks: Asks,
     given: usize,
     tally: Tally,
@@ -36,14 +37,14 @@ pub struct Walk<V: Visit> {
 }
 
 impl<V: Visit> Model for Walk<V> {
-    ghost use Rattle.std.specs.Prelude.{◌≤◌, length};
-    ghost use Rattle.defer_walk.specs.Standing.{WalkState};
+    ghost use Rattle.std.specs.Prelude.{◌≡◌, ◌≤◌, false, length};
+    ghost use Rattle.defer_walk.specs.Standing.{WalkState, left_by};
 
     ghost Value = { WalkState V V.Acc };
 
-    ghost view = { λ p. record { me = p.me; visit = p.visit; piece = p.piece.items; accs = p.accs.items; pairs = p.pairs.items; slots = p.asks; given = p.given; tally = p.tally; started = p.started; advanced = p.advanced; starved = p.starved } };
+    ghost view = { λ p. record { me = p.me; visit = p.visit; piece = p.piece.items; accs = p.accs.items; pairs = left_by p.advanced (length p.piece.items) p.held.items; slots = p.asks; given = p.given; tally = p.tally; started = p.started; advanced = p.advanced; starved = p.starved } };
 
-    ghost invariant = { λ p. p.given ≤ length p.asks };
+    ghost invariant = { λ p. (p.given ≤ length p.asks) × (p.starved ≡ false → p.left ≡ length (left_by p.advanced (length p.piece.items) p.held.items)) };
 }
 
 impl<V: Visit> Walk<V> {
@@ -60,12 +61,13 @@ impl<V: Visit> Walk<V> {
             visit,
             piece: piece.to_vec(alloc)?,
             accs,
-            pairs: Vec::new(alloc),
+            held: Vec::new(alloc),
+            left: 0,
             asks: Asks::new(alloc),
             given: 0,
             tally: Tally::new(alloc),
             started: false,
-            advanced: false,
+            advanced: true,
             starved: false,
         })
     }
@@ -86,17 +88,10 @@ impl<V: Visit> Walk<V> {
         if self.starved {
             return Err(AllocError);
         }
-        match list_roots(&mut self.pairs, self.piece.len() as u32) {
-            Ok(()) => {
-                self.started = true;
-                self.advanced = false;
-                Ok(())
-            }
-            Err(e) => {
-                self.starved = true;
-                Err(e)
-            }
-        }
+        self.started = true;
+        self.advanced = false;
+        self.left = self.piece.len() as u64;
+        Ok(())
     }
 
     /// Works until every pair that is left waits for an absent cell, and answers how many do. Where memory runs out the
@@ -106,7 +101,7 @@ impl<V: Visit> Walk<V> {
         requires fits { (w : World) × C.stands cells.now w self.old.me × StandsFor V.zero_of V.adds V.opens_by V.Acc.seen_of w self.old }
         ensures stands { (w : World) → C.stands cells.now w self.old.me → StandsFor V.zero_of V.adds V.opens_by V.Acc.seen_of w self.old → StandsFor V.zero_of V.adds V.opens_by V.Acc.seen_of w self.new }
         ensures same { IsSameWalk self.old self.new }
-        ensures given { self.new.given ≡ self.old.given }
+        ensures given { (self.new.given ≡ self.old.given) × (given_of self.new ≡ given_of self.old) }
         ensures extends { Extends self.old.slots self.new.slots }
         ensures ok { OnOk result ((self.new.started ≡ true) × (self.new.advanced ≡ true) × (self.new.starved ≡ false)) }
         ensures progress { IfOk result (λ p. IsProgress p self.new.pairs) }
@@ -118,7 +113,7 @@ impl<V: Visit> Walk<V> {
         if self.starved {
             return Err(AllocError);
         }
-        let mut waiting = Vec::new(self.alloc);
+        let mut held = Vec::new(self.alloc);
         let worked = go_on(
             self.alloc,
             self.advanced,
@@ -128,20 +123,21 @@ impl<V: Visit> Walk<V> {
             &mut self.accs,
             &mut self.tally,
             &mut self.asks,
-            &mut self.pairs,
-            &mut waiting,
+            &mut self.held,
+            &mut held,
         );
         match worked {
             Err(e) => {
                 self.starved = true;
                 Err(e)
             }
-            Ok(()) => {
-                self.pairs = waiting;
+            Ok(left) => {
+                self.held = held;
+                self.left = left;
                 self.advanced = true;
-                match self.pairs.len() {
+                match left {
                     0 => Ok(Progress::Done),
-                    n => Ok(Progress::Waiting(n as u64)),
+                    n => Ok(Progress::Waiting(n)),
                 }
             }
         }
@@ -152,6 +148,7 @@ impl<V: Visit> Walk<V> {
     pub fn asked(&mut self) -> Option<Ask>
         ensures some { IfSome result (λ a. (given_of self.new ≡ given_of self.old ++ a.key ∷ []) × (Contains (given_of self.old) a.key → ⊥)) }
         ensures needed { IfSome result (λ a. (w : World) → StandsFor V.zero_of V.adds V.opens_by V.Acc.seen_of w self.old → IsOwner w a.owner a.key × Needs (V.opens_by self.old.visit) w self.old.me a.key × (IsBranch w a.owner a.key ⊎ IsSome (answer_of self.old (parent a.key)))) }
+        ensures remote { IfSome result (λ a. (w : World) → StandsFor V.zero_of V.adds V.opens_by V.Acc.seen_of w self.old → IsRemote w self.old.me a.owner a.key) }
         ensures none { IsNone result ↔ (given_of self.old ≡ asked_keys self.old.slots) }
         ensures unchanged { IsNone result → self.new ≡ self.old }
         ensures stands { (w : World) → StandsFor V.zero_of V.adds V.opens_by V.Acc.seen_of w self.old → StandsFor V.zero_of V.adds V.opens_by V.Acc.seen_of w self.new }
@@ -185,7 +182,7 @@ impl<V: Visit> Walk<V> {
     pub fn done(&self) -> bool
         ensures value { IsTrue result ↔ ((self.now.started ≡ true) × (self.now.starved ≡ false) × (self.now.pairs ≡ [])) }
     {
-        self.started && !self.starved && self.pairs.is_empty()
+        self.started && !self.starved && self.left == 0
     }
 
     /// What the walk gives once it is done.

@@ -1,59 +1,80 @@
-use Rattle.std.proofs.Common.{rules, ◌≡◌, subst, List, [], false}
-use Rattle.defer_walk.specs.declared.listed.Listed.{Listed}
+use Rattle.std.proofs.Common.{◌≡◌, ℕ, ◌≤◌, List, length, sym, subst, arith, false}
+use Rattle.hot_model.specs.Limits.{max_bodies}
+use Rattle.hot_model.specs.Values.{BodyValue}
+use Rattle.hot_model.specs.Pairs.{PairValue}
+use Rattle.defer_walk.specs.Grouping.{group, all_listed, places_to}
 use Rattle.defer_walk.specs.Standing.{VisitOf, meaning, pairs_in}
 use Rattle.defer_walk.specs.Turning.{Runs}
-use Rattle.defer_walk.proofs.Slots.{extends_trans}
-use Rattle.defer_walk.proofs.Advances.{begun, front_of}
+use Rattle.defer_walk.proofs.Slots.{extends_same, extends_trans}
+use Rattle.defer_walk.proofs.Turnings.{filter_short}
+use Rattle.defer_walk.proofs.Advances.{root_comes, roots_group, chunk_group}
 use Rattle.defer_walk.proofs.stages.begin.Goals as goal
 
-pub returns-in_err-push-clause-stored : goal.returns-in_err-push-clause-stored
-returns-in_err-push-clause-stored g c = λ w me start stands good own first roots rec r. (c.loop-listed.invariant.runs w me start stands good own first roots rec r).keeps.store
-
-pub work_off-requires-clause-fits : goal.work_off-requires-clause-fits
-work_off-requires-clause-fits g c = λ κs l.
+pub overflow_cast-to : goal.overflow_cast-to
+overflow_cast-to g c =
     let q = c.requires.fits in
-    let v : VisitOf g.row.V-Acc.Denot = meaning g.V.Visit.zero_of g.V.Visit.adds g.V.Visit.opens_by g.V.Acc.Seen.seen_of c.args.visit.now in
-    let inv = c.loop-listed.invariant in (
-      q.0,
-      q.1,
-      q.2,
-      pairs_in q.0 c.pop.new.self.items,
-      q.3,
-      q.4,
-      q.5,
-      begun v q.0 q.1 q.2 c.args.piece.now c.loop-listed.accs c.loop-listed.tally c.loop-listed.asks c.loop-listed.pairs.items c.pop.new.self.items c.in-Some.listed c.args.root c.loop-listed.work.items c.push.new.self.items (pairs_in q.0 c.loop-listed.waiting.items) c.pair_of.result
-          q.7 (inv.roots q.8) c.in-Some.ensures.items q.9 inv.empty c.in_ok-push.ensures.items c.pair_of.ensures (inv.runs q.0 q.1 q.2 q.3 q.4 q.5 q.7 q.8 q.9 q.6),
-    )
+    let short : length c.args.piece.now ≤ length q.0.bodies = subst (λ (xs : List BodyValue). length xs ≤ length q.0.bodies) (sym q.5) (filter_short _ q.0.bodies) in
+    let few : length q.0.bodies ≤ max_bodies = q.4.few in
+    omega (arith, short, few)
 
-pub loop-listed-preserved : goal.loop-listed-preserved
-loop-listed-preserved g c =
-    let v : VisitOf g.row.V-Acc.Denot = meaning g.V.Visit.zero_of g.V.Visit.adds g.V.Visit.opens_by g.V.Acc.Seen.seen_of c.args.visit.now in
-    let inv = c.loop-listed.invariant in
-    record {
-      runs = λ w me start stands good own first roots rec r. c.in_ok-work_off.ensures.runs w me start (pairs_in w c.pop.new.self.items) stands good own
-          (begun v w me start c.args.piece.now c.loop-listed.accs c.loop-listed.tally c.loop-listed.asks c.loop-listed.pairs.items c.pop.new.self.items c.in-Some.listed c.args.root c.loop-listed.work.items c.push.new.self.items (pairs_in w c.loop-listed.waiting.items) c.pair_of.result
-          first (inv.roots roots) c.in-Some.ensures.items rec inv.empty c.in_ok-push.ensures.items c.pair_of.ensures (inv.runs w me start stands good own first roots rec r));
-      roots = λ h. front_of (λ (x : Listed). (x.key ≡ 1) × (x.whole ≡ false)) c.loop-listed.pairs.items c.pop.new.self.items c.in-Some.listed c.in-Some.ensures.items (inv.roots h);
-      empty = c.in_ok-work_off.ensures.empty;
-      extends = extends_trans c.args.asks.now c.loop-listed.asks c.work_off.new.asks inv.extends c.in_ok-work_off.ensures.extends;
-    }
+pub loop-to-init : goal.loop-to-init
+loop-to-init g c = record {
+  runs = λ w me start stands good own first root r.
+      let v : VisitOf g.row.V-Acc.Denot = meaning g.V.Visit.zero_of g.V.Visit.adds g.V.Visit.opens_by g.V.Acc.Seen.seen_of c.args.visit.now in
+      subst (λ (ps : List PairValue). Runs v w me start c.args.piece.now c.args.accs.now c.args.tally.now c.args.asks.now ps (pairs_in w (all_listed c.args.held.now.items))) (roots_group w c.args.root root (length c.args.piece.now)) r;
+  extends = extends_same c.args.asks.now;
+}
 
-pub returns-in_err-work_off-clause-stored : goal.returns-in_err-work_off-clause-stored
-returns-in_err-work_off-clause-stored g c = λ w me start stands good own first roots rec r.
-    let v : VisitOf g.row.V-Acc.Denot = meaning g.V.Visit.zero_of g.V.Visit.adds g.V.Visit.opens_by g.V.Acc.Seen.seen_of c.args.visit.now in
-    let inv = c.loop-listed.invariant in
-    c.in_err-work_off.ensures.stored w me start (pairs_in w c.pop.new.self.items) stands good own
-    (begun v w me start c.args.piece.now c.loop-listed.accs c.loop-listed.tally c.loop-listed.asks c.loop-listed.pairs.items c.pop.new.self.items c.in-Some.listed c.args.root c.loop-listed.work.items c.push.new.self.items (pairs_in w c.loop-listed.waiting.items) c.pair_of.result
-    first (inv.roots roots) c.in-Some.ensures.items rec inv.empty c.in_ok-push.ensures.items c.pair_of.ensures (inv.runs w me start stands good own first roots rec r))
+pub returns-in_err-places-clause-stored : goal.returns-in_err-places-clause-stored
+returns-in_err-places-clause-stored g c = λ w me start stands good own first root r. (c.loop-to.invariant.runs w me start stands good own first root r).keeps.store
 
-pub returns-in_err-work_off-clause-extends : goal.returns-in_err-work_off-clause-extends
-returns-in_err-work_off-clause-extends g c = extends_trans c.args.asks.now c.loop-listed.asks c.work_off.new.asks c.loop-listed.invariant.extends c.in_err-work_off.ensures.extends
+pub descend-requires-clause-fits : goal.descend-requires-clause-fits
+descend-requires-clause-fits g c κs within =
+    let v : VisitOf g.row.V-Acc.Denot = meaning g.V.Visit.zero_of g.V.Visit.adds g.V.Visit.opens_by g.V.Acc.Seen.seen_of c.args.visit.now in
+    let q = c.requires.fits in
+    let w = q.0 in
+    let me = q.1 in
+    let start = q.2 in
+    let stands = q.3 in
+    let good = q.4 in
+    let own = q.5 in
+    let first = q.7 in
+    let root = q.8 in
+    let keep = group false c.args.root (places_to c.saturating_sub-from.result) in
+    let comes = root_comes w me start c.args.root start.advanced false first root in
+    let runs = subst (λ (ps : List PairValue). Runs v w me start c.args.piece.now c.loop-to.accs c.loop-to.tally c.loop-to.asks ps (pairs_in w (all_listed c.loop-to.held.items)))
+    (chunk_group c.args.root c.saturating_sub-from.result c.loop-to.to c.in_ok-places.places.items c.in_ok-places.ensures.value) (c.loop-to.invariant.runs w me start stands good own first root q.6) in
+    (w, me, start, keep, stands, good, own, comes, runs)
+
+pub returns-in_err-descend-clause-stored : goal.returns-in_err-descend-clause-stored
+returns-in_err-descend-clause-stored g c = λ w me start stands good own first root r.
+    let v : VisitOf g.row.V-Acc.Denot = meaning g.V.Visit.zero_of g.V.Visit.adds g.V.Visit.opens_by g.V.Acc.Seen.seen_of c.args.visit.now in
+    let keep = group false c.args.root (places_to c.saturating_sub-from.result) in
+    let comes = root_comes w me start c.args.root start.advanced false first root in
+    let runs = subst (λ (ps : List PairValue). Runs v w me start c.args.piece.now c.loop-to.accs c.loop-to.tally c.loop-to.asks ps (pairs_in w (all_listed c.loop-to.held.items)))
+    (chunk_group c.args.root c.saturating_sub-from.result c.loop-to.to c.in_ok-places.places.items c.in_ok-places.ensures.value) (c.loop-to.invariant.runs w me start stands good own first root r) in
+    c.in_err-descend.ensures.stored w me start keep stands good own comes runs
+
+pub returns-in_err-descend-clause-extends : goal.returns-in_err-descend-clause-extends
+returns-in_err-descend-clause-extends g c = extends_trans c.args.asks.now c.loop-to.asks c.descend.new.asks c.loop-to.invariant.extends c.in_err-descend.ensures.extends
+
+pub loop-to-preserved : goal.loop-to-preserved
+loop-to-preserved g c = record {
+  runs = λ w me start stands good own first root r.
+      let v : VisitOf g.row.V-Acc.Denot = meaning g.V.Visit.zero_of g.V.Visit.adds g.V.Visit.opens_by g.V.Acc.Seen.seen_of c.args.visit.now in
+      let keep = group false c.args.root (places_to c.saturating_sub-from.result) in
+      let comes = root_comes w me start c.args.root start.advanced false first root in
+      let runs = subst (λ (ps : List PairValue). Runs v w me start c.args.piece.now c.loop-to.accs c.loop-to.tally c.loop-to.asks ps (pairs_in w (all_listed c.loop-to.held.items)))
+      (chunk_group c.args.root c.saturating_sub-from.result c.loop-to.to c.in_ok-places.places.items c.in_ok-places.ensures.value) (c.loop-to.invariant.runs w me start stands good own first root r) in
+      c.in_ok-descend.ensures.runs w me start keep stands good own comes runs;
+  extends = extends_trans c.args.asks.now c.loop-to.asks c.descend.new.asks c.loop-to.invariant.extends c.in_ok-descend.ensures.extends;
+}
 
 pub returns-clause-stored : goal.returns-clause-stored
-returns-clause-stored g c = λ w me start stands good own first roots rec r. (c.loop-listed.invariant.runs w me start stands good own first roots rec r).keeps.store
+returns-clause-stored g c = λ w me start stands good own first root r. (c.loop-to.invariant.runs w me start stands good own first root r).keeps.store
 
 pub returns-clause-runs : goal.returns-clause-runs
-returns-clause-runs g c = λ w me start stands good own first roots rec r.
+returns-clause-runs g c = λ w me start stands good own first root r.
     let v : VisitOf g.row.V-Acc.Denot = meaning g.V.Visit.zero_of g.V.Visit.adds g.V.Visit.opens_by g.V.Acc.Seen.seen_of c.args.visit.now in
-    let e : c.loop-listed.pairs.items ≡ [] = search rules in
-    subst (λ (ls : List Listed). Runs v w me start c.args.piece.now c.loop-listed.accs c.loop-listed.tally c.loop-listed.asks (pairs_in w ls) [] (pairs_in w c.loop-listed.waiting.items)) e (c.loop-listed.invariant.runs w me start stands good own first roots rec r)
+    let none : c.loop-to.to ≡ 0 = omega arith in
+    subst (λ (n : ℕ). Runs v w me start c.args.piece.now c.loop-to.accs c.loop-to.tally c.loop-to.asks (group false c.args.root (places_to n)) (pairs_in w (all_listed c.loop-to.held.items))) none (c.loop-to.invariant.runs w me start stands good own first root r)

@@ -1,169 +1,209 @@
-use Rattle.std.proofs.Common.{rules, ◌≡◌, ◌<◌, ℕ, sym, ◌∙◌, subst, ap, refl, List, ◌∷◌, [], None, Some, length, get_or}
-use Rattle.std.specs.Prelude.{slice_get}
+use Rattle.std.proofs.Common.{rules, ◌≡◌, ℕ, ◌<◌, ◌++◌, List, [], ◌∷◌, length, sym, ap, subst, ◌∙◌, false, Some, None}
 use Rattle.std.specs.Option.{option_copied}
-use Rattle.std.proofs.lemmas.Option.{slice_get-get_or}
+use Rattle.std.proofs.lemmas.List.{append-nil}
 use Rattle.hot_model.specs.Pairs.{PairValue}
-use Rattle.defer_walk.specs.declared.listed.Listed.{Listed}
+use Rattle.defer_walk.specs.declared.held.Held.{Held}
 use Rattle.defer_walk.specs.Asked.{stored_at}
-use Rattle.defer_walk.specs.Settling.{Wakes}
-use Rattle.defer_walk.specs.Standing.{VisitOf, meaning, pair_in, pairs_in}
+use Rattle.defer_walk.specs.Grouping.{by_children, listed_as, listed_of, all_listed}
+use Rattle.defer_walk.specs.Standing.{VisitOf, meaning, pairs_in, Waits}
 use Rattle.defer_walk.specs.Turning.{Runs}
 use Rattle.defer_walk.proofs.Slots.{extends_trans}
-use Rattle.defer_walk.proofs.Turnings.{got as got_at}
-use Rattle.defer_walk.proofs.Advances.{more_left, left_pair, left_body, left_away, left_opened, left_waits, left_wakes, left_true, left_fits, left_room}
+use Rattle.defer_walk.proofs.Advances.{held_snoc, waits_of, was_awake, still_waits, runs_still, all_absent, more_left, some_items, no_items}
 use Rattle.defer_walk.proofs.stages.resume.Goals as goal
 
-pub loop-listed-preserved-in-Continue-1 : goal.loop-listed-preserved-in-Continue-1
-loop-listed-preserved-in-Continue-1 g c =
-    let laws = g.met.V.Visit g.world.𝓛 g.world.𝓜 g.world.𝓡 ((λ s x. x), (λ x. x), (λ x. x), λ x. x) in
-    let v : VisitOf g.row.V-Acc.Denot = meaning g.V.Visit.zero_of g.V.Visit.adds g.V.Visit.opens_by g.V.Acc.Seen.seen_of c.args.visit.now in
-    let inv = c.loop-listed.invariant in
-    let none : stored_at c.loop-listed.asks c.in-Some.listed.key ≡ None = sym c.answer.ensures.value ∙ ap option_copied c.in-None.is in
-    record {
-      runs = λ w me start stands good own late same waited r.
-          left_waits v w me start c.args.piece.now c.loop-listed.accs c.loop-listed.tally c.loop-listed.asks c.args.pairs.now.items c.loop-listed.pairs.items c.pop.new.self.items inv.prefix.0 c.in-Some.listed (pairs_in w c.loop-listed.waiting.items) late same waited inv.prefix.1 c.in-Some.ensures.items (inv.runs w me start stands good own late same waited r) (λ b. record { swaps = λ a s t. laws.swaps c.args.visit.now b a s t }) c.push.new.self.items c.loop-listed.waiting.items refl c.in_ok-push-in-None.ensures.items none;
-      prefix = (c.in-Some.listed ∷ inv.prefix.0, more_left c.args.pairs.now.items c.loop-listed.pairs.items c.pop.new.self.items inv.prefix.0 c.in-Some.listed inv.prefix.1 c.in-Some.ensures.items);
-      empty = inv.empty;
-      extends = inv.extends;
-    }
+pub loop-waits_here-preserved-in-Continue-1 : goal.loop-waits_here-preserved-in-Continue-1
+loop-waits_here-preserved-in-Continue-1 g c = record {
+  runs = λ w me start stands good own late same waited r.
+      let laws = g.met.V.Visit g.world.𝓛 g.world.𝓜 g.world.𝓡 ((λ s x. x), (λ x. x), (λ x. x), λ x. x) in
+      let v : VisitOf g.row.V-Acc.Denot = meaning g.V.Visit.zero_of g.V.Visit.adds g.V.Visit.opens_by g.V.Acc.Seen.seen_of c.args.visit.now in
+      let inv = c.loop-waits_here.invariant in
+      let now = inv.runs w me start stands good own late same waited r in
+      let ws = c.pop.new.self.items in
+      let h = c.in-Some.waits_here in
+      let e = c.in-Some.ensures.items in
+      let keep = pairs_in w (all_listed ws) in
+      let mine = listed_of h in
+      let held = pairs_in w (all_listed c.loop-waits_here.held.items) in
+      let split = subst (λ (ps : List PairValue). Runs v w me start c.args.piece.now c.loop-waits_here.accs c.loop-waits_here.tally c.loop-waits_here.asks ps held) (ap (λ (hs : List Held). pairs_in w (all_listed hs)) e ∙ held_snoc w ws h) now in
+      let waited_here = waits_of w (Waits v w me c.args.piece.now start.slots) c.args.waits.now.items c.loop-waits_here.waits.items ws inv.prefix.0 h inv.prefix.1 e waited in
+      let none : stored_at c.loop-waits_here.asks h.key ≡ None = sym c.answer.ensures.value ∙ ap option_copied c.in-None.is in
+      let still = runs_still v w me start c.args.piece.now (λ b. record { swaps = λ a s t. laws.swaps c.args.visit.now b a s t }) c.loop-waits_here.accs c.loop-waits_here.tally c.loop-waits_here.asks keep (pairs_in w mine) held
+      (still_waits v w me start c.args.piece.now c.loop-waits_here.accs c.loop-waits_here.tally c.loop-waits_here.asks (pairs_in w (all_listed c.loop-waits_here.waits.items)) held (pairs_in w mine) now waited_here)
+      (all_absent v w me start c.args.piece.now (λ b. record { swaps = λ a s t. laws.swaps c.args.visit.now b a s t }) c.loop-waits_here.asks h.key h.whole h.bodies.items none) split in
+      subst (λ (ps : List PairValue). Runs v w me start c.args.piece.now c.loop-waits_here.accs c.loop-waits_here.tally c.loop-waits_here.asks keep ps) (sym (ap (λ (hs : List Held). pairs_in w (all_listed hs)) c.in_ok-push-in-None.ensures.items ∙ held_snoc w c.loop-waits_here.held.items h)) still;
+  prefix = (c.in-Some.waits_here ∷ c.loop-waits_here.invariant.prefix.0, more_left c.args.waits.now.items c.loop-waits_here.waits.items c.pop.new.self.items c.loop-waits_here.invariant.prefix.0 c.in-Some.waits_here c.loop-waits_here.invariant.prefix.1 c.in-Some.ensures.items);
+  extends = c.loop-waits_here.invariant.extends;
+}
+
+pub loop-waits_here-preserved-then-is_empty : goal.loop-waits_here-preserved-then-is_empty
+loop-waits_here-preserved-then-is_empty g c = record {
+  runs = λ w me start stands good own late same waited r.
+      let v : VisitOf g.row.V-Acc.Denot = meaning g.V.Visit.zero_of g.V.Visit.adds g.V.Visit.opens_by g.V.Acc.Seen.seen_of c.args.visit.now in
+      let inv = c.loop-waits_here.invariant in
+      let now = inv.runs w me start stands good own late same waited r in
+      let ws = c.pop.new.self.items in
+      let h = c.in-Some.waits_here in
+      let e = c.in-Some.ensures.items in
+      let keep = pairs_in w (all_listed ws) in
+      let mine = listed_of h in
+      let held = pairs_in w (all_listed c.loop-waits_here.held.items) in
+      let split = subst (λ (ps : List PairValue). Runs v w me start c.args.piece.now c.loop-waits_here.accs c.loop-waits_here.tally c.loop-waits_here.asks ps held) (ap (λ (hs : List Held). pairs_in w (all_listed hs)) e ∙ held_snoc w ws h) now in
+      let none : h.bodies.items ≡ [] = no_items h.bodies.items (sym c.is_empty.ensures ∙ c.if-is_empty.true) in
+      let drop_them : keep ++ pairs_in w mine ≡ keep = ap (λ (bs : List ℕ). keep ++ pairs_in w (listed_as h.key h.whole bs)) none ∙ append-nil keep in
+      subst (λ (ps : List PairValue). Runs v w me start c.args.piece.now c.loop-waits_here.accs c.loop-waits_here.tally c.loop-waits_here.asks ps held) drop_them split;
+  prefix = (c.in-Some.waits_here ∷ c.loop-waits_here.invariant.prefix.0, more_left c.args.waits.now.items c.loop-waits_here.waits.items c.pop.new.self.items c.loop-waits_here.invariant.prefix.0 c.in-Some.waits_here c.loop-waits_here.invariant.prefix.1 c.in-Some.ensures.items);
+  extends = c.loop-waits_here.invariant.extends;
+}
 
 pub returns-in_err-push-in-None-clause-stored : goal.returns-in_err-push-in-None-clause-stored
-returns-in_err-push-in-None-clause-stored g c = λ w me start stands good own late same waited r.
-    (c.loop-listed.invariant.runs w me start stands good own late same waited r).keeps.store
+returns-in_err-push-in-None-clause-stored g c = λ w me start stands good own late same waited r. (c.loop-waits_here.invariant.runs w me start stands good own late same waited r).keeps.store
 
-pub bounds-piece-at : goal.bounds-piece-at
-bounds-piece-at g c =
+pub wake-requires-clause-fits : goal.wake-requires-clause-fits
+wake-requires-clause-fits g c κs within =
     let v : VisitOf g.row.V-Acc.Denot = meaning g.V.Visit.zero_of g.V.Visit.adds g.V.Visit.opens_by g.V.Acc.Seen.seen_of c.args.visit.now in
-    let inv = c.loop-listed.invariant in
     let q = c.requires.fits in
-    let within : c.in-Some.listed.body < length c.args.piece.now = left_body v q.0 q.1 q.2 c.args.piece.now c.loop-listed.accs c.loop-listed.tally c.loop-listed.asks c.args.pairs.now.items c.loop-listed.pairs.items c.pop.new.self.items inv.prefix.0 c.in-Some.listed (pairs_in q.0 c.loop-listed.waiting.items) q.7 q.8 q.9 inv.prefix.1 c.in-Some.ensures.items (inv.runs q.0 q.1 q.2 q.3 q.4 q.5 q.7 q.8 q.9 q.6) in
-    let long : length c.args.piece.now ≡ length c.loop-listed.accs = sym ((inv.runs q.0 q.1 q.2 q.3 q.4 q.5 q.7 q.8 q.9 q.6).keeps.balance.long) in
-    within
-
-pub offset_bounds-accs-at : goal.offset_bounds-accs-at
-offset_bounds-accs-at g c =
-    let v : VisitOf g.row.V-Acc.Denot = meaning g.V.Visit.zero_of g.V.Visit.adds g.V.Visit.opens_by g.V.Acc.Seen.seen_of c.args.visit.now in
-    let inv = c.loop-listed.invariant in
-    let q = c.requires.fits in
-    let within : c.in-Some.listed.body < length c.args.piece.now = left_body v q.0 q.1 q.2 c.args.piece.now c.loop-listed.accs c.loop-listed.tally c.loop-listed.asks c.args.pairs.now.items c.loop-listed.pairs.items c.pop.new.self.items inv.prefix.0 c.in-Some.listed (pairs_in q.0 c.loop-listed.waiting.items) q.7 q.8 q.9 inv.prefix.1 c.in-Some.ensures.items (inv.runs q.0 q.1 q.2 q.3 q.4 q.5 q.7 q.8 q.9 q.6) in
-    let long : length c.args.piece.now ≡ length c.loop-listed.accs = sym ((inv.runs q.0 q.1 q.2 q.3 q.4 q.5 q.7 q.8 q.9 q.6).keeps.balance.long) in
-    let at : c.in-Some.listed.body < length c.loop-listed.accs = subst (λ (n : ℕ). c.in-Some.listed.body < n) long within in
-    search rules
-
-pub bounds-accs-at : goal.bounds-accs-at
-bounds-accs-at g c =
-    let v : VisitOf g.row.V-Acc.Denot = meaning g.V.Visit.zero_of g.V.Visit.adds g.V.Visit.opens_by g.V.Acc.Seen.seen_of c.args.visit.now in
-    let inv = c.loop-listed.invariant in
-    let q = c.requires.fits in
-    let within : c.in-Some.listed.body < length c.args.piece.now = left_body v q.0 q.1 q.2 c.args.piece.now c.loop-listed.accs c.loop-listed.tally c.loop-listed.asks c.args.pairs.now.items c.loop-listed.pairs.items c.pop.new.self.items inv.prefix.0 c.in-Some.listed (pairs_in q.0 c.loop-listed.waiting.items) q.7 q.8 q.9 inv.prefix.1 c.in-Some.ensures.items (inv.runs q.0 q.1 q.2 q.3 q.4 q.5 q.7 q.8 q.9 q.6) in
-    let long : length c.args.piece.now ≡ length c.loop-listed.accs = sym ((inv.runs q.0 q.1 q.2 q.3 q.4 q.5 q.7 q.8 q.9 q.6).keeps.balance.long) in
-    subst (λ (n : ℕ). c.in-Some.listed.body < n) long within
-
-pub wake-requires-clause-room : goal.wake-requires-clause-room
-wake-requires-clause-room g c = λ κs l.
-    let v : VisitOf g.row.V-Acc.Denot = meaning g.V.Visit.zero_of g.V.Visit.adds g.V.Visit.opens_by g.V.Acc.Seen.seen_of c.args.visit.now in
-    let inv = c.loop-listed.invariant in
-    let q = c.requires.fits in
-    left_room v q.0 q.1 q.2 c.args.piece.now c.loop-listed.accs c.loop-listed.tally c.loop-listed.asks c.args.pairs.now.items c.loop-listed.pairs.items c.pop.new.self.items inv.prefix.0 c.in-Some.listed (pairs_in q.0 c.loop-listed.waiting.items) q.7 q.8 q.9 inv.prefix.1 c.in-Some.ensures.items (inv.runs q.0 q.1 q.2 q.3 q.4 q.5 q.7 q.8 q.9 q.6) q.4 q.5
-
-pub wake-requires-clause-light : goal.wake-requires-clause-light
-wake-requires-clause-light g c = λ κs l.
-    let laws = g.met.V.Visit g.world.𝓛 g.world.𝓜 g.world.𝓡 ((λ s x. x), (λ x. x), (λ x. x), λ x. x) in
-    let v : VisitOf g.row.V-Acc.Denot = meaning g.V.Visit.zero_of g.V.Visit.adds g.V.Visit.opens_by g.V.Acc.Seen.seen_of c.args.visit.now in
-    let inv = c.loop-listed.invariant in
-    let q = c.requires.fits in
-    let within : c.in-Some.listed.body < length c.args.piece.now = left_body v q.0 q.1 q.2 c.args.piece.now c.loop-listed.accs c.loop-listed.tally c.loop-listed.asks c.args.pairs.now.items c.loop-listed.pairs.items c.pop.new.self.items inv.prefix.0 c.in-Some.listed (pairs_in q.0 c.loop-listed.waiting.items) q.7 q.8 q.9 inv.prefix.1 c.in-Some.ensures.items (inv.runs q.0 q.1 q.2 q.3 q.4 q.5 q.7 q.8 q.9 q.6) in
-    let long : length c.args.piece.now ≡ length c.loop-listed.accs = sym ((inv.runs q.0 q.1 q.2 q.3 q.4 q.5 q.7 q.8 q.9 q.6).keeps.balance.long) in
-    let got : stored_at c.loop-listed.asks c.in-Some.listed.key ≡ Some c.in-Some-answer.answer.now = sym c.answer.ensures.value ∙ ap option_copied c.in-Some-answer.is in
-    let i = c.in-Some.listed.body in
-    let pb : slice_get c.args.piece.now i ≡ Some c.index-piece-at.result = got_at c.args.piece.now i c.index-piece-at.result within c.index-piece-at.is in
-    let pa : slice_get c.loop-listed.accs i ≡ Some (get_or c.loop-listed.accs i c.index-accs-at.result) = slice_get-get_or c.loop-listed.accs i c.index-accs-at.result (subst (λ (n : ℕ). i < n) long within) in
-    (q.0, left_true v q.0 q.1 q.2 c.args.piece.now c.loop-listed.accs c.loop-listed.tally c.loop-listed.asks c.args.pairs.now.items c.loop-listed.pairs.items c.pop.new.self.items inv.prefix.0 c.in-Some.listed (pairs_in q.0 c.loop-listed.waiting.items) q.7 q.8 q.9 inv.prefix.1 c.in-Some.ensures.items (inv.runs q.0 q.1 q.2 q.3 q.4 q.5 q.7 q.8 q.9 q.6) c.in-Some-answer.answer.now got, left_fits v q.0 q.1 q.2 c.args.piece.now c.loop-listed.accs c.loop-listed.tally c.loop-listed.asks c.args.pairs.now.items c.loop-listed.pairs.items c.pop.new.self.items inv.prefix.0 c.in-Some.listed (pairs_in q.0 c.loop-listed.waiting.items) q.7 q.8 q.9 inv.prefix.1 c.in-Some.ensures.items (inv.runs q.0 q.1 q.2 q.3 q.4 q.5 q.7 q.8 q.9 q.6) (λ b a t. laws.sees c.args.visit.now b a t) q.4 c.index-piece-at.result (get_or c.loop-listed.accs i c.index-accs-at.result) pb pa)
+    let w = q.0 in
+    let me = q.1 in
+    let start = q.2 in
+    let stands = q.3 in
+    let good = q.4 in
+    let own = q.5 in
+    let r = q.6 in
+    let late = q.7 in
+    let same = q.8 in
+    let waited = q.9 in
+    let inv = c.loop-waits_here.invariant in
+    let now = inv.runs w me start stands good own late same waited r in
+    let ws = c.pop.new.self.items in
+    let h = c.in-Some.waits_here in
+    let e = c.in-Some.ensures.items in
+    let keep = pairs_in w (all_listed ws) in
+    let mine = listed_of h in
+    let held = pairs_in w (all_listed c.loop-waits_here.held.items) in
+    let split = subst (λ (ps : List PairValue). Runs v w me start c.args.piece.now c.loop-waits_here.accs c.loop-waits_here.tally c.loop-waits_here.asks ps held) (ap (λ (hs : List Held). pairs_in w (all_listed hs)) e ∙ held_snoc w ws h) now in
+    let waited_here = waits_of w (Waits v w me c.args.piece.now start.slots) c.args.waits.now.items c.loop-waits_here.waits.items ws inv.prefix.0 h inv.prefix.1 e waited in
+    let got : stored_at c.loop-waits_here.asks h.key ≡ Some c.in-Some-answer.answer.now = sym c.answer.ensures.value ∙ ap option_copied c.in-Some-answer.is in
+    let some : 0 < length h.bodies.items = some_items h.bodies.items (sym c.is_empty.ensures ∙ c.if-is_empty.false) in
+    let awake = was_awake v w me start c.args.piece.now c.loop-waits_here.accs c.loop-waits_here.tally c.loop-waits_here.asks (pairs_in w (all_listed c.loop-waits_here.waits.items)) held now c.args.waits.now.items c.loop-waits_here.waits.items ws inv.prefix.0 h c.in-Some-answer.answer.now same some inv.prefix.1 e got in
+    (w, me, start, c.loop-waits_here.asks, keep, held, good, own, got, waited_here, late, awake, split)
 
 pub returns-in_err-wake-in-Some-answer-clause-stored : goal.returns-in_err-wake-in-Some-answer-clause-stored
-returns-in_err-wake-in-Some-answer-clause-stored g c = λ w me start stands good own late same waited r.
-    (c.loop-listed.invariant.runs w me start stands good own late same waited r).keeps.store
+returns-in_err-wake-in-Some-answer-clause-stored g c = λ w me start stands good own late same waited r. (c.loop-waits_here.invariant.runs w me start stands good own late same waited r).keeps.store
 
-pub work_off-requires-clause-fits : goal.work_off-requires-clause-fits
-work_off-requires-clause-fits g c = λ κs l.
-    let laws = g.met.V.Visit g.world.𝓛 g.world.𝓜 g.world.𝓡 ((λ s x. x), (λ x. x), (λ x. x), λ x. x) in
+pub returns-in_err-extend_from_slice-in-Some-answer-clause-stored : goal.returns-in_err-extend_from_slice-in-Some-answer-clause-stored
+returns-in_err-extend_from_slice-in-Some-answer-clause-stored g c = λ w me start stands good own late same waited r. (c.loop-waits_here.invariant.runs w me start stands good own late same waited r).keeps.store
+
+pub descend_all-requires-clause-fits : goal.descend_all-requires-clause-fits
+descend_all-requires-clause-fits g c κs within =
     let v : VisitOf g.row.V-Acc.Denot = meaning g.V.Visit.zero_of g.V.Visit.adds g.V.Visit.opens_by g.V.Acc.Seen.seen_of c.args.visit.now in
-    let inv = c.loop-listed.invariant in
     let q = c.requires.fits in
-    let within : c.in-Some.listed.body < length c.args.piece.now = left_body v q.0 q.1 q.2 c.args.piece.now c.loop-listed.accs c.loop-listed.tally c.loop-listed.asks c.args.pairs.now.items c.loop-listed.pairs.items c.pop.new.self.items inv.prefix.0 c.in-Some.listed (pairs_in q.0 c.loop-listed.waiting.items) q.7 q.8 q.9 inv.prefix.1 c.in-Some.ensures.items (inv.runs q.0 q.1 q.2 q.3 q.4 q.5 q.7 q.8 q.9 q.6) in
-    let long : length c.args.piece.now ≡ length c.loop-listed.accs = sym ((inv.runs q.0 q.1 q.2 q.3 q.4 q.5 q.7 q.8 q.9 q.6).keeps.balance.long) in
-    let got : stored_at c.loop-listed.asks c.in-Some.listed.key ≡ Some c.in-Some-answer.answer.now = sym c.answer.ensures.value ∙ ap option_copied c.in-Some-answer.is in
-    let i = c.in-Some.listed.body in
-    let pb : slice_get c.args.piece.now i ≡ Some c.index-piece-at.result = got_at c.args.piece.now i c.index-piece-at.result within c.index-piece-at.is in
-    let pa : slice_get c.loop-listed.accs i ≡ Some (get_or c.loop-listed.accs i c.index-accs-at.result) = slice_get-get_or c.loop-listed.accs i c.index-accs-at.result (subst (λ (n : ℕ). i < n) long within) in (
-      q.0,
-      q.1,
-      q.2,
-      pairs_in q.0 c.pop.new.self.items,
-      q.3,
-      q.4,
-      q.5,
-      left_wakes v q.0 q.1 q.2 c.args.piece.now c.loop-listed.accs c.loop-listed.tally c.loop-listed.asks c.args.pairs.now.items c.loop-listed.pairs.items c.pop.new.self.items inv.prefix.0 c.in-Some.listed (pairs_in q.0 c.loop-listed.waiting.items) q.7 q.8 q.9 inv.prefix.1 c.in-Some.ensures.items (inv.runs q.0 q.1 q.2 q.3 q.4 q.5 q.7 q.8 q.9 q.6)
-          (λ b. record { swaps = λ a s t. laws.swaps c.args.visit.now b a s t }) c.in-Some-answer.answer.now got c.wake.new.tally c.wake.new.work.items c.index-piece-at.result (get_or c.loop-listed.accs i c.index-accs-at.result) c.wake.new.acc pb pa
-          (subst (λ (ws : List PairValue). Wakes (g.V.Visit.adds c.args.visit.now c.index-piece-at.result) (g.V.Visit.opens_by c.args.visit.now c.index-piece-at.result) q.0 q.1 (pair_in q.0 c.in-Some.listed) (get_or c.loop-listed.accs i c.index-accs-at.result) c.wake.new.acc ws c.wake.new.work.items) inv.empty
-          (c.in_ok-wake-in-Some-answer.ensures.settled q.0 q.1 (left_pair v q.0 q.1 q.2 c.args.piece.now c.loop-listed.accs c.loop-listed.tally c.loop-listed.asks c.args.pairs.now.items c.loop-listed.pairs.items c.pop.new.self.items inv.prefix.0 c.in-Some.listed (pairs_in q.0 c.loop-listed.waiting.items) q.7 q.8 q.9 inv.prefix.1 c.in-Some.ensures.items (inv.runs q.0 q.1 q.2 q.3 q.4 q.5 q.7 q.8 q.9 q.6)) (left_opened v q.0 q.1 q.2 c.args.piece.now c.loop-listed.accs c.loop-listed.tally c.loop-listed.asks c.args.pairs.now.items c.loop-listed.pairs.items c.pop.new.self.items inv.prefix.0 c.in-Some.listed (pairs_in q.0 c.loop-listed.waiting.items) q.7 q.8 q.9 inv.prefix.1 c.in-Some.ensures.items (inv.runs q.0 q.1 q.2 q.3 q.4 q.5 q.7 q.8 q.9 q.6) c.index-piece-at.result pb) (left_away v q.0 q.1 q.2 c.args.piece.now c.loop-listed.accs c.loop-listed.tally c.loop-listed.asks c.args.pairs.now.items c.loop-listed.pairs.items c.pop.new.self.items inv.prefix.0 c.in-Some.listed (pairs_in q.0 c.loop-listed.waiting.items) q.7 q.8 q.9 inv.prefix.1 c.in-Some.ensures.items (inv.runs q.0 q.1 q.2 q.3 q.4 q.5 q.7 q.8 q.9 q.6)) (left_true v q.0 q.1 q.2 c.args.piece.now c.loop-listed.accs c.loop-listed.tally c.loop-listed.asks c.args.pairs.now.items c.loop-listed.pairs.items c.pop.new.self.items inv.prefix.0 c.in-Some.listed (pairs_in q.0 c.loop-listed.waiting.items) q.7 q.8 q.9 inv.prefix.1 c.in-Some.ensures.items (inv.runs q.0 q.1 q.2 q.3 q.4 q.5 q.7 q.8 q.9 q.6) c.in-Some-answer.answer.now got)))
-          c.in_ok-wake-in-Some-answer.ensures.noted,
-    )
+    let w = q.0 in
+    let me = q.1 in
+    let start = q.2 in
+    let stands = q.3 in
+    let good = q.4 in
+    let own = q.5 in
+    let r = q.6 in
+    let late = q.7 in
+    let same = q.8 in
+    let waited = q.9 in
+    let inv = c.loop-waits_here.invariant in
+    let now = inv.runs w me start stands good own late same waited r in
+    let ws = c.pop.new.self.items in
+    let h = c.in-Some.waits_here in
+    let e = c.in-Some.ensures.items in
+    let keep = pairs_in w (all_listed ws) in
+    let mine = listed_of h in
+    let held = pairs_in w (all_listed c.loop-waits_here.held.items) in
+    let split = subst (λ (ps : List PairValue). Runs v w me start c.args.piece.now c.loop-waits_here.accs c.loop-waits_here.tally c.loop-waits_here.asks ps held) (ap (λ (hs : List Held). pairs_in w (all_listed hs)) e ∙ held_snoc w ws h) now in
+    let waited_here = waits_of w (Waits v w me c.args.piece.now start.slots) c.args.waits.now.items c.loop-waits_here.waits.items ws inv.prefix.0 h inv.prefix.1 e waited in
+    let got : stored_at c.loop-waits_here.asks h.key ≡ Some c.in-Some-answer.answer.now = sym c.answer.ensures.value ∙ ap option_copied c.in-Some-answer.is in
+    let some : 0 < length h.bodies.items = some_items h.bodies.items (sym c.is_empty.ensures ∙ c.if-is_empty.false) in
+    let awake = was_awake v w me start c.args.piece.now c.loop-waits_here.accs c.loop-waits_here.tally c.loop-waits_here.asks (pairs_in w (all_listed c.loop-waits_here.waits.items)) held now c.args.waits.now.items c.loop-waits_here.waits.items ws inv.prefix.0 h c.in-Some-answer.answer.now same some inv.prefix.1 e got in
+    let woken = c.in_ok-wake-in-Some-answer.ensures.woken w me start c.loop-waits_here.asks keep held good own got waited_here late awake split in
+    let there : c.extend_from_slice.new.self.items ≡ h.bodies.items = c.in_ok-extend_from_slice-in-Some-answer.ensures.items ∙ ap (λ (xs : List ℕ). xs ++ c.as_slice.result.now) c.clear.ensures.items ∙ c.as_slice.ensures in
+    let called = subst (λ (xs : List ℕ). Runs v w me start c.args.piece.now c.wake.new.accs c.wake.new.tally c.loop-waits_here.asks (keep ++ by_children false xs c.wake.new.recs.items) held) (sym there) woken.0 in
+    (w, me, start, keep, stands, good, own, woken.1, called)
 
-pub loop-listed-preserved : goal.loop-listed-preserved
-loop-listed-preserved g c =
-    let laws = g.met.V.Visit g.world.𝓛 g.world.𝓜 g.world.𝓡 ((λ s x. x), (λ x. x), (λ x. x), λ x. x) in
+pub returns-in_err-descend_all-in-Some-answer-clause-stored : goal.returns-in_err-descend_all-in-Some-answer-clause-stored
+returns-in_err-descend_all-in-Some-answer-clause-stored g c = λ w me start stands good own late same waited r.
     let v : VisitOf g.row.V-Acc.Denot = meaning g.V.Visit.zero_of g.V.Visit.adds g.V.Visit.opens_by g.V.Acc.Seen.seen_of c.args.visit.now in
-    let inv = c.loop-listed.invariant in
-    let q = c.requires.fits in
-    let within : c.in-Some.listed.body < length c.args.piece.now = left_body v q.0 q.1 q.2 c.args.piece.now c.loop-listed.accs c.loop-listed.tally c.loop-listed.asks c.args.pairs.now.items c.loop-listed.pairs.items c.pop.new.self.items inv.prefix.0 c.in-Some.listed (pairs_in q.0 c.loop-listed.waiting.items) q.7 q.8 q.9 inv.prefix.1 c.in-Some.ensures.items (inv.runs q.0 q.1 q.2 q.3 q.4 q.5 q.7 q.8 q.9 q.6) in
-    let long : length c.args.piece.now ≡ length c.loop-listed.accs = sym ((inv.runs q.0 q.1 q.2 q.3 q.4 q.5 q.7 q.8 q.9 q.6).keeps.balance.long) in
-    let got : stored_at c.loop-listed.asks c.in-Some.listed.key ≡ Some c.in-Some-answer.answer.now = sym c.answer.ensures.value ∙ ap option_copied c.in-Some-answer.is in
-    let i = c.in-Some.listed.body in
-    let pb : slice_get c.args.piece.now i ≡ Some c.index-piece-at.result = got_at c.args.piece.now i c.index-piece-at.result within c.index-piece-at.is in
-    let pa : slice_get c.loop-listed.accs i ≡ Some (get_or c.loop-listed.accs i c.index-accs-at.result) = slice_get-get_or c.loop-listed.accs i c.index-accs-at.result (subst (λ (n : ℕ). i < n) long within) in
-    record {
-      runs = λ w me start stands good own late same waited r.
-          c.in_ok-work_off-in-Some-answer.ensures.runs w me start (pairs_in w c.pop.new.self.items) stands good own
-          (left_wakes v w me start c.args.piece.now c.loop-listed.accs c.loop-listed.tally c.loop-listed.asks c.args.pairs.now.items c.loop-listed.pairs.items c.pop.new.self.items inv.prefix.0 c.in-Some.listed (pairs_in w c.loop-listed.waiting.items) late same waited inv.prefix.1 c.in-Some.ensures.items (inv.runs w me start stands good own late same waited r)
-          (λ b. record { swaps = λ a s t. laws.swaps c.args.visit.now b a s t }) c.in-Some-answer.answer.now got c.wake.new.tally c.wake.new.work.items c.index-piece-at.result (get_or c.loop-listed.accs i c.index-accs-at.result) c.wake.new.acc pb pa
-          (subst (λ (ws : List PairValue). Wakes (g.V.Visit.adds c.args.visit.now c.index-piece-at.result) (g.V.Visit.opens_by c.args.visit.now c.index-piece-at.result) w me (pair_in w c.in-Some.listed) (get_or c.loop-listed.accs i c.index-accs-at.result) c.wake.new.acc ws c.wake.new.work.items) inv.empty
-          (c.in_ok-wake-in-Some-answer.ensures.settled w me (left_pair v w me start c.args.piece.now c.loop-listed.accs c.loop-listed.tally c.loop-listed.asks c.args.pairs.now.items c.loop-listed.pairs.items c.pop.new.self.items inv.prefix.0 c.in-Some.listed (pairs_in w c.loop-listed.waiting.items) late same waited inv.prefix.1 c.in-Some.ensures.items (inv.runs w me start stands good own late same waited r)) (left_opened v w me start c.args.piece.now c.loop-listed.accs c.loop-listed.tally c.loop-listed.asks c.args.pairs.now.items c.loop-listed.pairs.items c.pop.new.self.items inv.prefix.0 c.in-Some.listed (pairs_in w c.loop-listed.waiting.items) late same waited inv.prefix.1 c.in-Some.ensures.items (inv.runs w me start stands good own late same waited r) c.index-piece-at.result pb) (left_away v w me start c.args.piece.now c.loop-listed.accs c.loop-listed.tally c.loop-listed.asks c.args.pairs.now.items c.loop-listed.pairs.items c.pop.new.self.items inv.prefix.0 c.in-Some.listed (pairs_in w c.loop-listed.waiting.items) late same waited inv.prefix.1 c.in-Some.ensures.items (inv.runs w me start stands good own late same waited r)) (left_true v w me start c.args.piece.now c.loop-listed.accs c.loop-listed.tally c.loop-listed.asks c.args.pairs.now.items c.loop-listed.pairs.items c.pop.new.self.items inv.prefix.0 c.in-Some.listed (pairs_in w c.loop-listed.waiting.items) late same waited inv.prefix.1 c.in-Some.ensures.items (inv.runs w me start stands good own late same waited r) c.in-Some-answer.answer.now got)))
-          c.in_ok-wake-in-Some-answer.ensures.noted);
-      prefix = (c.in-Some.listed ∷ inv.prefix.0, more_left c.args.pairs.now.items c.loop-listed.pairs.items c.pop.new.self.items inv.prefix.0 c.in-Some.listed inv.prefix.1 c.in-Some.ensures.items);
-      empty = c.in_ok-work_off-in-Some-answer.ensures.empty;
-      extends = extends_trans c.args.asks.now c.loop-listed.asks c.work_off.new.asks inv.extends c.in_ok-work_off-in-Some-answer.ensures.extends;
-    }
+    let inv = c.loop-waits_here.invariant in
+    let now = inv.runs w me start stands good own late same waited r in
+    let ws = c.pop.new.self.items in
+    let h = c.in-Some.waits_here in
+    let e = c.in-Some.ensures.items in
+    let keep = pairs_in w (all_listed ws) in
+    let mine = listed_of h in
+    let held = pairs_in w (all_listed c.loop-waits_here.held.items) in
+    let split = subst (λ (ps : List PairValue). Runs v w me start c.args.piece.now c.loop-waits_here.accs c.loop-waits_here.tally c.loop-waits_here.asks ps held) (ap (λ (hs : List Held). pairs_in w (all_listed hs)) e ∙ held_snoc w ws h) now in
+    let waited_here = waits_of w (Waits v w me c.args.piece.now start.slots) c.args.waits.now.items c.loop-waits_here.waits.items ws inv.prefix.0 h inv.prefix.1 e waited in
+    let got : stored_at c.loop-waits_here.asks h.key ≡ Some c.in-Some-answer.answer.now = sym c.answer.ensures.value ∙ ap option_copied c.in-Some-answer.is in
+    let some : 0 < length h.bodies.items = some_items h.bodies.items (sym c.is_empty.ensures ∙ c.if-is_empty.false) in
+    let awake = was_awake v w me start c.args.piece.now c.loop-waits_here.accs c.loop-waits_here.tally c.loop-waits_here.asks (pairs_in w (all_listed c.loop-waits_here.waits.items)) held now c.args.waits.now.items c.loop-waits_here.waits.items ws inv.prefix.0 h c.in-Some-answer.answer.now same some inv.prefix.1 e got in
+    let woken = c.in_ok-wake-in-Some-answer.ensures.woken w me start c.loop-waits_here.asks keep held good own got waited_here late awake split in
+    let there : c.extend_from_slice.new.self.items ≡ h.bodies.items = c.in_ok-extend_from_slice-in-Some-answer.ensures.items ∙ ap (λ (xs : List ℕ). xs ++ c.as_slice.result.now) c.clear.ensures.items ∙ c.as_slice.ensures in
+    let called = subst (λ (xs : List ℕ). Runs v w me start c.args.piece.now c.wake.new.accs c.wake.new.tally c.loop-waits_here.asks (keep ++ by_children false xs c.wake.new.recs.items) held) (sym there) woken.0 in
+    c.in_err-descend_all-in-Some-answer.ensures.stored w me start keep stands good own woken.1 called
 
-pub returns-in_err-work_off-in-Some-answer-clause-stored : goal.returns-in_err-work_off-in-Some-answer-clause-stored
-returns-in_err-work_off-in-Some-answer-clause-stored g c = λ w me start stands good own late same waited r.
-    let laws = g.met.V.Visit g.world.𝓛 g.world.𝓜 g.world.𝓡 ((λ s x. x), (λ x. x), (λ x. x), λ x. x) in
-    let v : VisitOf g.row.V-Acc.Denot = meaning g.V.Visit.zero_of g.V.Visit.adds g.V.Visit.opens_by g.V.Acc.Seen.seen_of c.args.visit.now in
-    let inv = c.loop-listed.invariant in
-    let q = c.requires.fits in
-    let within : c.in-Some.listed.body < length c.args.piece.now = left_body v q.0 q.1 q.2 c.args.piece.now c.loop-listed.accs c.loop-listed.tally c.loop-listed.asks c.args.pairs.now.items c.loop-listed.pairs.items c.pop.new.self.items inv.prefix.0 c.in-Some.listed (pairs_in q.0 c.loop-listed.waiting.items) q.7 q.8 q.9 inv.prefix.1 c.in-Some.ensures.items (inv.runs q.0 q.1 q.2 q.3 q.4 q.5 q.7 q.8 q.9 q.6) in
-    let long : length c.args.piece.now ≡ length c.loop-listed.accs = sym ((inv.runs q.0 q.1 q.2 q.3 q.4 q.5 q.7 q.8 q.9 q.6).keeps.balance.long) in
-    let got : stored_at c.loop-listed.asks c.in-Some.listed.key ≡ Some c.in-Some-answer.answer.now = sym c.answer.ensures.value ∙ ap option_copied c.in-Some-answer.is in
-    let i = c.in-Some.listed.body in
-    let pb : slice_get c.args.piece.now i ≡ Some c.index-piece-at.result = got_at c.args.piece.now i c.index-piece-at.result within c.index-piece-at.is in
-    let pa : slice_get c.loop-listed.accs i ≡ Some (get_or c.loop-listed.accs i c.index-accs-at.result) = slice_get-get_or c.loop-listed.accs i c.index-accs-at.result (subst (λ (n : ℕ). i < n) long within) in
-    c.in_err-work_off-in-Some-answer.ensures.stored w me start (pairs_in w c.pop.new.self.items) stands good own
-    (left_wakes v w me start c.args.piece.now c.loop-listed.accs c.loop-listed.tally c.loop-listed.asks c.args.pairs.now.items c.loop-listed.pairs.items c.pop.new.self.items inv.prefix.0 c.in-Some.listed (pairs_in w c.loop-listed.waiting.items) late same waited inv.prefix.1 c.in-Some.ensures.items (inv.runs w me start stands good own late same waited r)
-    (λ b. record { swaps = λ a s t. laws.swaps c.args.visit.now b a s t }) c.in-Some-answer.answer.now got c.wake.new.tally c.wake.new.work.items c.index-piece-at.result (get_or c.loop-listed.accs i c.index-accs-at.result) c.wake.new.acc pb pa
-    (subst (λ (ws : List PairValue). Wakes (g.V.Visit.adds c.args.visit.now c.index-piece-at.result) (g.V.Visit.opens_by c.args.visit.now c.index-piece-at.result) w me (pair_in w c.in-Some.listed) (get_or c.loop-listed.accs i c.index-accs-at.result) c.wake.new.acc ws c.wake.new.work.items) inv.empty
-    (c.in_ok-wake-in-Some-answer.ensures.settled w me (left_pair v w me start c.args.piece.now c.loop-listed.accs c.loop-listed.tally c.loop-listed.asks c.args.pairs.now.items c.loop-listed.pairs.items c.pop.new.self.items inv.prefix.0 c.in-Some.listed (pairs_in w c.loop-listed.waiting.items) late same waited inv.prefix.1 c.in-Some.ensures.items (inv.runs w me start stands good own late same waited r)) (left_opened v w me start c.args.piece.now c.loop-listed.accs c.loop-listed.tally c.loop-listed.asks c.args.pairs.now.items c.loop-listed.pairs.items c.pop.new.self.items inv.prefix.0 c.in-Some.listed (pairs_in w c.loop-listed.waiting.items) late same waited inv.prefix.1 c.in-Some.ensures.items (inv.runs w me start stands good own late same waited r) c.index-piece-at.result pb) (left_away v w me start c.args.piece.now c.loop-listed.accs c.loop-listed.tally c.loop-listed.asks c.args.pairs.now.items c.loop-listed.pairs.items c.pop.new.self.items inv.prefix.0 c.in-Some.listed (pairs_in w c.loop-listed.waiting.items) late same waited inv.prefix.1 c.in-Some.ensures.items (inv.runs w me start stands good own late same waited r)) (left_true v w me start c.args.piece.now c.loop-listed.accs c.loop-listed.tally c.loop-listed.asks c.args.pairs.now.items c.loop-listed.pairs.items c.pop.new.self.items inv.prefix.0 c.in-Some.listed (pairs_in w c.loop-listed.waiting.items) late same waited inv.prefix.1 c.in-Some.ensures.items (inv.runs w me start stands good own late same waited r) c.in-Some-answer.answer.now got)))
-    c.in_ok-wake-in-Some-answer.ensures.noted)
+pub returns-in_err-descend_all-in-Some-answer-clause-extends : goal.returns-in_err-descend_all-in-Some-answer-clause-extends
+returns-in_err-descend_all-in-Some-answer-clause-extends g c = extends_trans c.args.asks.now c.loop-waits_here.asks c.descend_all.new.asks c.loop-waits_here.invariant.extends c.in_err-descend_all-in-Some-answer.ensures.extends
 
-pub returns-in_err-work_off-in-Some-answer-clause-extends : goal.returns-in_err-work_off-in-Some-answer-clause-extends
-returns-in_err-work_off-in-Some-answer-clause-extends g c = extends_trans c.args.asks.now c.loop-listed.asks c.work_off.new.asks c.loop-listed.invariant.extends c.in_err-work_off-in-Some-answer.ensures.extends
+pub loop-waits_here-preserved-in_ok-descend_all-in-Some-answer : goal.loop-waits_here-preserved-in_ok-descend_all-in-Some-answer
+loop-waits_here-preserved-in_ok-descend_all-in-Some-answer g c = record {
+  runs = λ w me start stands good own late same waited r.
+      let v : VisitOf g.row.V-Acc.Denot = meaning g.V.Visit.zero_of g.V.Visit.adds g.V.Visit.opens_by g.V.Acc.Seen.seen_of c.args.visit.now in
+      let inv = c.loop-waits_here.invariant in
+      let now = inv.runs w me start stands good own late same waited r in
+      let ws = c.pop.new.self.items in
+      let h = c.in-Some.waits_here in
+      let e = c.in-Some.ensures.items in
+      let keep = pairs_in w (all_listed ws) in
+      let mine = listed_of h in
+      let held = pairs_in w (all_listed c.loop-waits_here.held.items) in
+      let split = subst (λ (ps : List PairValue). Runs v w me start c.args.piece.now c.loop-waits_here.accs c.loop-waits_here.tally c.loop-waits_here.asks ps held) (ap (λ (hs : List Held). pairs_in w (all_listed hs)) e ∙ held_snoc w ws h) now in
+      let waited_here = waits_of w (Waits v w me c.args.piece.now start.slots) c.args.waits.now.items c.loop-waits_here.waits.items ws inv.prefix.0 h inv.prefix.1 e waited in
+      let got : stored_at c.loop-waits_here.asks h.key ≡ Some c.in-Some-answer.answer.now = sym c.answer.ensures.value ∙ ap option_copied c.in-Some-answer.is in
+      let some : 0 < length h.bodies.items = some_items h.bodies.items (sym c.is_empty.ensures ∙ c.if-is_empty.false) in
+      let awake = was_awake v w me start c.args.piece.now c.loop-waits_here.accs c.loop-waits_here.tally c.loop-waits_here.asks (pairs_in w (all_listed c.loop-waits_here.waits.items)) held now c.args.waits.now.items c.loop-waits_here.waits.items ws inv.prefix.0 h c.in-Some-answer.answer.now same some inv.prefix.1 e got in
+      let woken = c.in_ok-wake-in-Some-answer.ensures.woken w me start c.loop-waits_here.asks keep held good own got waited_here late awake split in
+      let there : c.extend_from_slice.new.self.items ≡ h.bodies.items = c.in_ok-extend_from_slice-in-Some-answer.ensures.items ∙ ap (λ (xs : List ℕ). xs ++ c.as_slice.result.now) c.clear.ensures.items ∙ c.as_slice.ensures in
+      let called = subst (λ (xs : List ℕ). Runs v w me start c.args.piece.now c.wake.new.accs c.wake.new.tally c.loop-waits_here.asks (keep ++ by_children false xs c.wake.new.recs.items) held) (sym there) woken.0 in
+      c.in_ok-descend_all-in-Some-answer.ensures.runs w me start keep stands good own woken.1 called;
+  prefix = (c.in-Some.waits_here ∷ c.loop-waits_here.invariant.prefix.0, more_left c.args.waits.now.items c.loop-waits_here.waits.items c.pop.new.self.items c.loop-waits_here.invariant.prefix.0 c.in-Some.waits_here c.loop-waits_here.invariant.prefix.1 c.in-Some.ensures.items);
+  extends = extends_trans c.args.asks.now c.loop-waits_here.asks c.descend_all.new.asks c.loop-waits_here.invariant.extends c.in_ok-descend_all-in-Some-answer.ensures.extends;
+}
+
+pub loop-waits_here-preserved : goal.loop-waits_here-preserved
+loop-waits_here-preserved g c = record {
+  runs = λ w me start stands good own late same waited r.
+      let v : VisitOf g.row.V-Acc.Denot = meaning g.V.Visit.zero_of g.V.Visit.adds g.V.Visit.opens_by g.V.Acc.Seen.seen_of c.args.visit.now in
+      let inv = c.loop-waits_here.invariant in
+      let now = inv.runs w me start stands good own late same waited r in
+      let ws = c.pop.new.self.items in
+      let h = c.in-Some.waits_here in
+      let e = c.in-Some.ensures.items in
+      let keep = pairs_in w (all_listed ws) in
+      let mine = listed_of h in
+      let held = pairs_in w (all_listed c.loop-waits_here.held.items) in
+      let split = subst (λ (ps : List PairValue). Runs v w me start c.args.piece.now c.loop-waits_here.accs c.loop-waits_here.tally c.loop-waits_here.asks ps held) (ap (λ (hs : List Held). pairs_in w (all_listed hs)) e ∙ held_snoc w ws h) now in
+      let waited_here = waits_of w (Waits v w me c.args.piece.now start.slots) c.args.waits.now.items c.loop-waits_here.waits.items ws inv.prefix.0 h inv.prefix.1 e waited in
+      let got : stored_at c.loop-waits_here.asks h.key ≡ Some c.in-Some-answer.answer.now = sym c.answer.ensures.value ∙ ap option_copied c.in-Some-answer.is in
+      let some : 0 < length h.bodies.items = some_items h.bodies.items (sym c.is_empty.ensures ∙ c.if-is_empty.false) in
+      let awake = was_awake v w me start c.args.piece.now c.loop-waits_here.accs c.loop-waits_here.tally c.loop-waits_here.asks (pairs_in w (all_listed c.loop-waits_here.waits.items)) held now c.args.waits.now.items c.loop-waits_here.waits.items ws inv.prefix.0 h c.in-Some-answer.answer.now same some inv.prefix.1 e got in
+      let woken = c.in_ok-wake-in-Some-answer.ensures.woken w me start c.loop-waits_here.asks keep held good own got waited_here late awake split in
+      let there : c.extend_from_slice.new.self.items ≡ h.bodies.items = c.in_ok-extend_from_slice-in-Some-answer.ensures.items ∙ ap (λ (xs : List ℕ). xs ++ c.as_slice.result.now) c.clear.ensures.items ∙ c.as_slice.ensures in
+      let called = subst (λ (xs : List ℕ). Runs v w me start c.args.piece.now c.wake.new.accs c.wake.new.tally c.loop-waits_here.asks (keep ++ by_children false xs c.wake.new.recs.items) held) (sym there) woken.0 in
+      c.in_ok-descend_all-in-Some-answer.ensures.runs w me start keep stands good own woken.1 called;
+  prefix = (c.in-Some.waits_here ∷ c.loop-waits_here.invariant.prefix.0, more_left c.args.waits.now.items c.loop-waits_here.waits.items c.pop.new.self.items c.loop-waits_here.invariant.prefix.0 c.in-Some.waits_here c.loop-waits_here.invariant.prefix.1 c.in-Some.ensures.items);
+  extends = extends_trans c.args.asks.now c.loop-waits_here.asks c.descend_all.new.asks c.loop-waits_here.invariant.extends c.in_ok-descend_all-in-Some-answer.ensures.extends;
+}
 
 pub returns-clause-stored : goal.returns-clause-stored
-returns-clause-stored g c = λ w me start stands good own late same waited r.
-    (c.loop-listed.invariant.runs w me start stands good own late same waited r).keeps.store
+returns-clause-stored g c = λ w me start stands good own late same waited r. (c.loop-waits_here.invariant.runs w me start stands good own late same waited r).keeps.store
 
 pub returns-clause-runs : goal.returns-clause-runs
 returns-clause-runs g c = λ w me start stands good own late same waited r.
     let v : VisitOf g.row.V-Acc.Denot = meaning g.V.Visit.zero_of g.V.Visit.adds g.V.Visit.opens_by g.V.Acc.Seen.seen_of c.args.visit.now in
-    let inv = c.loop-listed.invariant in
-    let e : c.loop-listed.pairs.items ≡ [] = search rules in
-    subst (λ (ls : List Listed). Runs v w me start c.args.piece.now c.loop-listed.accs c.loop-listed.tally c.loop-listed.asks (pairs_in w ls) [] (pairs_in w c.loop-listed.waiting.items)) e (inv.runs w me start stands good own late same waited r)
+    let e : c.loop-waits_here.waits.items ≡ [] = search rules in
+    subst (λ (hs : List Held). Runs v w me start c.args.piece.now c.loop-waits_here.accs c.loop-waits_here.tally c.loop-waits_here.asks (pairs_in w (all_listed hs)) (pairs_in w (all_listed c.loop-waits_here.held.items))) e (c.loop-waits_here.invariant.runs w me start stands good own late same waited r)
