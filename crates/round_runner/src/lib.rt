@@ -8,13 +8,16 @@ mod draw;
 mod entry;
 mod gate;
 mod log;
+mod meet_gate;
 mod mem_wire;
 #[cfg(test)]
 mod tests;
 mod wire;
 
+pub use draw::{drawn, next_state};
 pub use entry::{Entry, Note};
 pub use gate::{Gate, OpenGate};
 pub use log::Log;
+pub use meet_gate::MeetGate;
 pub use mem_wire::MemWire;
 pub use wire::{PostRefused, Turn, Wire};

@@ -5,7 +5,7 @@ ghost use Rattle.round_runner.specs.Desk.{letters_in, rounds_in, begun, posted, 
 ghost use Rattle.round_runner.specs.Notes.{note_of};
 ghost use Rattle.round_runner.specs.Policies.{new_state, desk_of, mem_eager, seed_of, place_of, more_of, draw_after};
 
-use crate::draw::next_state;
+use crate::draw::{drawn, next_state};
 use crate::wire::Turn;
 use crate::{Entry, Log, Note, PostRefused, Wire};
 use cell_mail::Letter;
@@ -93,10 +93,7 @@ fn place_and_draw(mail: Mail, draw: u64, count: usize) -> (usize, u64)
     match mail {
         Mail::Prompt | Mail::Single => (0, draw),
         Mail::Last => (count - 1, draw),
-        Mail::Seeded(_) => {
-            let state = next_state(draw);
-            ((state >> 43) as usize % count, state)
-        }
+        Mail::Seeded(_) => (drawn(draw) as usize % count, next_state(draw)),
     }
 }
 

@@ -10,6 +10,7 @@ use hot_model::Mail;
 use std::alloc::{AllocError, Global};
 use std::process::Abort;
 use std::test::Fail;
+use std::thread::join;
 
 /// A branches letter without items.
 const NO_BRANCHES: [u8; 6] = [1, 1, 0, 0, 0, 0];
@@ -173,4 +174,22 @@ fn the_log_has_the_keys(rt: HostRuntime) -> Result<(), Fail> {
     assert_eq!(rt; wire.log().len(), 0);
     OpenGate.enter(7);
     Ok(())
+}
+
+#[test]
+fn one_thread_meets_nobody(rt: HostRuntime) {
+    for limit in [0, 10] {
+        let gate = MeetGate::new(limit);
+        gate.enter(0);
+        assert!(&rt; !gate.met());
+        gate.enter(1);
+        assert!(&rt; !gate.met());
+    }
+}
+
+#[test]
+fn a_rank_that_is_held_meets_the_next(rt: HostRuntime) {
+    let gate = MeetGate::new(1_000_000_000);
+    join(&rt, || gate.enter(5), || gate.enter(5));
+    assert!(&rt; gate.met());
 }
