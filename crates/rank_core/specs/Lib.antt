@@ -1,0 +1,13 @@
+pub mod Times
+pub mod Known
+pub mod RankTree
+pub mod Truth
+pub mod Seat
+pub mod Mail
+pub mod Part
+pub mod Sending
+pub mod Standing
+pub mod Reading
+pub mod Seats
+pub mod Samples
+pub mod Laws
