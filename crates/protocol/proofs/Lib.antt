@@ -1,0 +1,16 @@
+pub mod Weights
+pub mod Places
+pub mod Truths
+pub mod Needing
+pub mod Posting
+pub mod Bridges
+pub mod Taking
+pub mod Sending
+pub mod Stepping
+pub mod Ending
+pub mod Bounds
+pub mod Counting
+pub mod Above
+pub mod Deepening
+pub mod Starting
+pub mod Keeping
