@@ -1,0 +1,3 @@
+pub mod Runs
+pub mod Couples
+mod Crowding

@@ -1,0 +1,37 @@
+use Rattle.round_runner.specs.declared.wire.Turn.TheVariants.{Free, Shut}
+use Rattle.rank_core.specs.Standing.{StandsIn}
+use Rattle.runs.proofs.Runs.{frame_on, frame_turned, running_turned}
+use Rattle.runs.proofs.rounds.deliver.Goals as goal
+
+pub deliver_one-requires-in-loop-wire-clause-running : goal.deliver_one-requires-in-loop-wire-clause-running
+deliver_one-requires-in-loop-wire-clause-running g c κs within =
+    let v = c.requires.running.0 in let w = c.requires.running.1 in
+    (v, w, running_turned g.V.Visit.opens_by (StandsIn g.V.Visit g.V.Acc.Seen) v w c.loop-wire.ranks (g.M.Wire.desk c.loop-wire.wire) (g.M.Wire.desk c.more.new.self) Free c.if-more.ensures.turn (c.loop-wire.invariant.kept v w c.requires.running.2))
+
+pub loop-wire-preserved : goal.loop-wire-preserved
+loop-wire-preserved g c =
+    let i = c.loop-wire.invariant in let e = c.in_ok-receivers-2.ensures in
+    record {
+      kept = λ v w j. e.kept v w (running_turned g.V.Visit.opens_by (StandsIn g.V.Visit g.V.Acc.Seen) v w c.loop-wire.ranks (g.M.Wire.desk c.loop-wire.wire) (g.M.Wire.desk c.more.new.self) Free c.if-more.ensures.turn (i.kept v w j));
+      quiet = λ q. e.quiet (i.quiet q);
+      frame = frame_on c.args.ranks.now (g.M.Wire.desk c.args.wire.now) c.loop-wire.ranks (g.M.Wire.desk c.more.new.self) c.deliver_one-in-loop-wire.new.ranks (g.M.Wire.desk c.deliver_one-in-loop-wire.new.wire)
+          (frame_on c.args.ranks.now (g.M.Wire.desk c.args.wire.now) c.loop-wire.ranks (g.M.Wire.desk c.loop-wire.wire) c.loop-wire.ranks (g.M.Wire.desk c.more.new.self) i.frame
+          (frame_turned c.loop-wire.ranks (g.M.Wire.desk c.loop-wire.wire) (g.M.Wire.desk c.more.new.self) Free c.if-more.ensures.turn)) e.frame;
+      used = e.used;
+      taken = e.taken;
+    }
+
+pub returns-in_err-receivers-2-clause-legal : goal.returns-in_err-receivers-2-clause-legal
+returns-in_err-receivers-2-clause-legal g c = λ v w j.
+    c.in_err-receivers-2.ensures.legal v w (running_turned g.V.Visit.opens_by (StandsIn g.V.Visit g.V.Acc.Seen) v w c.loop-wire.ranks (g.M.Wire.desk c.loop-wire.wire) (g.M.Wire.desk c.more.new.self) Free c.if-more.ensures.turn (c.loop-wire.invariant.kept v w j))
+
+pub returns-else-more-clause-kept : goal.returns-else-more-clause-kept
+returns-else-more-clause-kept g c = λ v w j.
+    running_turned g.V.Visit.opens_by (StandsIn g.V.Visit g.V.Acc.Seen) v w c.loop-wire.ranks (g.M.Wire.desk c.loop-wire.wire) (g.M.Wire.desk c.more.new.self) Shut c.if-more.ensures.turn (c.loop-wire.invariant.kept v w j)
+
+pub returns-else-more-clause-legal : goal.returns-else-more-clause-legal
+returns-else-more-clause-legal g c = λ v w j.
+    (running_turned g.V.Visit.opens_by (StandsIn g.V.Visit g.V.Acc.Seen) v w c.loop-wire.ranks (g.M.Wire.desk c.loop-wire.wire) (g.M.Wire.desk c.more.new.self) Shut c.if-more.ensures.turn (c.loop-wire.invariant.kept v w j)).joint.legal
+
+pub returns-after-loop-wire-clause-legal : goal.returns-after-loop-wire-clause-legal
+returns-after-loop-wire-clause-legal g c = λ v w j. (c.loop-wire.invariant.kept v w j).joint.legal

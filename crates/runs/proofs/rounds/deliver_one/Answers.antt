@@ -1,0 +1,28 @@
+use Rattle.rank_core.specs.Standing.{StandsIn}
+use Rattle.runs.proofs.Runs.{taken_letter, taken_within, taken_legal, taken_fresh, running_take, hands_quiet}
+use Rattle.runs.proofs.rounds.deliver_one.Goals as goal
+
+pub hand-requires-clause-within : goal.hand-requires-clause-within
+hand-requires-clause-within g c κs within = taken_within g.V.Visit.opens_by (StandsIn g.V.Visit g.V.Acc.Seen) c.requires.running.0 c.requires.running.1 c.args.ranks.now (g.M.Wire.desk c.args.wire.now) (g.M.Wire.desk c.take.new.self) c.in-Some.letter c.requires.running.2 c.in-Some.ensures.taken_or_none
+
+pub hand-requires-clause-fits : goal.hand-requires-clause-fits
+hand-requires-clause-fits g c κs within = λ r gr. (
+  c.requires.running.1,
+  c.requires.running.2.together.stand c.in-Some.letter.to r gr,
+  taken_letter g.V.Visit.opens_by (StandsIn g.V.Visit g.V.Acc.Seen) c.requires.running.0 c.requires.running.1 c.args.ranks.now (g.M.Wire.desk c.args.wire.now) (g.M.Wire.desk c.take.new.self) c.in-Some.letter c.requires.running.2 c.in-Some.ensures.taken_or_none,
+)
+
+pub hand-requires-clause-mine : goal.hand-requires-clause-mine
+hand-requires-clause-mine g c κs within = λ r gr. taken_fresh g.V.Visit.opens_by (StandsIn g.V.Visit g.V.Acc.Seen) c.requires.running.0 c.requires.running.1 c.args.ranks.now (g.M.Wire.desk c.args.wire.now) (g.M.Wire.desk c.take.new.self) c.in-Some.letter c.requires.running.2 c.in-Some.ensures.taken_or_none r gr
+
+pub returns-in_err-hand-in-Some-clause-legal : goal.returns-in_err-hand-in-Some-clause-legal
+returns-in_err-hand-in-Some-clause-legal g c = λ v w j. taken_legal g.V.Visit.opens_by (StandsIn g.V.Visit g.V.Acc.Seen) v w c.args.ranks.now (g.M.Wire.desk c.args.wire.now) (g.M.Wire.desk c.take.new.self) c.in-Some.letter j c.in-Some.ensures.taken_or_none
+
+pub returns-clause-legal : goal.returns-clause-legal
+returns-clause-legal g c = λ v w j. taken_legal g.V.Visit.opens_by (StandsIn g.V.Visit g.V.Acc.Seen) v w c.args.ranks.now (g.M.Wire.desk c.args.wire.now) (g.M.Wire.desk c.take.new.self) c.in-Some.letter j c.in-Some.ensures.taken_or_none
+
+pub returns-clause-kept : goal.returns-clause-kept
+returns-clause-kept g c = λ v w j. running_take g.V.Visit.opens_by (StandsIn g.V.Visit g.V.Acc.Seen) v w c.args.ranks.now (g.M.Wire.desk c.args.wire.now) (g.M.Wire.desk c.take.new.self) c.in-Some.letter j c.in-Some.ensures.taken_or_none c.hand.new.ranks c.in_ok-hand-in-Some.field-0 c.in_ok-hand-in-Some.ensures.handed
+
+pub returns-clause-quiet : goal.returns-clause-quiet
+returns-clause-quiet g c = λ qt. hands_quiet (StandsIn g.V.Visit g.V.Acc.Seen) c.args.ranks.now c.in-Some.letter c.hand.new.ranks c.in_ok-hand-in-Some.field-0 c.in_ok-hand-in-Some.ensures.handed qt

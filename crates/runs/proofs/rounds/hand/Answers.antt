@@ -1,0 +1,22 @@
+use Rattle.std.proofs.Common.{◌≡◌, ◌<◌, ℕ, length, slice_get, slice_index_or, slice_set, List, ap, sym, subst, Some}
+use Rattle.protocol.proofs.Places.{get_at}
+use Rattle.runs.proofs.rounds.hand.Goals as goal
+
+here : {X : Type 0} (ss : List X) (q r : ℕ) (d : X) → q ≡ r → r < length ss → slice_get ss r ≡ Some (slice_index_or ss q d)
+here ss q r d e lt = subst (λ (i : ℕ). slice_get ss r ≡ Some (slice_index_or ss i d)) (sym e) (get_at ss r d lt)
+
+pub take-requires-clause-fresh : goal.take-requires-clause-fresh
+take-requires-clause-fresh g c κs within =
+    (c.requires.mine (slice_index_or c.args.ranks.now c.to-to.result c.index-ranks-to.result)
+    (here c.args.ranks.now c.to-to.result c.args.letter.to c.index-ranks-to.result c.to-to.ensures.receiver c.requires.within)).1
+
+pub returns : goal.returns
+returns g c = record {
+  handed = (
+    slice_index_or c.args.ranks.now c.to-to.result c.index-ranks-to.result,
+    c.take.new.self,
+    here c.args.ranks.now c.to-to.result c.args.letter.to c.index-ranks-to.result c.to-to.ensures.receiver c.requires.within,
+    ap (λ (i : ℕ). slice_set c.args.ranks.now i c.take.new.self) c.to-to.ensures.receiver,
+    record { kept = c.take.ensures.kept; visit = c.take.ensures.visit; ok = c.take.ensures.ok },
+  );
+}

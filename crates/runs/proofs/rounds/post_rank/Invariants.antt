@@ -1,0 +1,19 @@
+use Rattle.std.proofs.Common.{◌≡◌, ◌≢◌, ℕ, ◌<◌, slice_get, length}
+use Rattle.hot_model.specs.World.{World}
+use Rattle.protocol.specs.Joint.{AllWorked}
+use Rattle.rank_core.specs.Standing.{StandsIn}
+use Rattle.runs.specs.Running.{seats, Running, Frame, outbox_len}
+use Rattle.runs.proofs.rounds.post_rank.Given as goal
+
+abbrev pub invariant-loop-letter : goal.invariant-loop-letter
+invariant-loop-letter g l = record {
+  within : l.q < length l.ranks;
+  kept : (v : _) (w : World) → Running g.V.Visit.opens_by (StandsIn g.V.Visit g.V.Acc.Seen) v w l.initial.ranks (g.M.Wire.desk l.initial.wire) 1 → Running g.V.Visit.opens_by (StandsIn g.V.Visit g.V.Acc.Seen) v w l.ranks (g.M.Wire.desk l.wire) 1;
+  worked : AllWorked (seats l.initial.ranks) → AllWorked (seats l.ranks);
+  others : (p : ℕ) → p ≢ l.q → slice_get l.ranks p ≡ slice_get l.initial.ranks p;
+  frame : Frame l.initial.ranks (g.M.Wire.desk l.initial.wire) l.ranks (g.M.Wire.desk l.wire);
+  turn : (g.M.Wire.desk l.wire).turn ≡ (g.M.Wire.desk l.initial.wire).turn;
+}
+
+abbrev pub decreases-loop-letter : goal.decreases-loop-letter
+decreases-loop-letter g l = outbox_len (seats l.ranks) l.q

@@ -1,0 +1,22 @@
+use Rattle.std.proofs.Common.{◌≡◌, ◌-◌, length}
+use Rattle.hot_model.specs.World.{World}
+use Rattle.round_runner.specs.Desk.{rounds_in}
+use Rattle.round_runner.specs.declared.wire.Turn.TheVariants.{Free}
+use Rattle.protocol.specs.Joint.{AllQuiet, IsStart}
+use Rattle.rank_core.specs.Standing.{StandsIn}
+use Rattle.runs.specs.Running.{most_rounds, seats, SameMail, Together, Running}
+use Rattle.runs.proofs.rounds.run.Given as goal
+
+abbrev pub invariant-loop-last : goal.invariant-loop-last
+invariant-loop-last g l = record {
+  kept : (v : _) (w : World) → Together (StandsIn g.V.Visit g.V.Acc.Seen) v w l.fn.ranks.items → Running g.V.Visit.opens_by (StandsIn g.V.Visit g.V.Acc.Seen) v w l.ranks.items (g.M.Wire.desk l.wire) 0;
+  quiet : AllQuiet (seats l.ranks.items);
+  start : IsStart (g.M.Wire.desk l.wire).log;
+  free : (g.M.Wire.desk l.wire).turn ≡ Free;
+  mail : SameMail (g.M.Wire.desk l.fn.wire) (g.M.Wire.desk l.wire);
+  rounds : l.rounds ≡ rounds_in (g.M.Wire.desk l.wire).log;
+  len : length l.ranks.items ≡ length l.fn.ranks.items;
+}
+
+abbrev pub decreases-loop-last : goal.decreases-loop-last
+decreases-loop-last g l = most_rounds - rounds_in (g.M.Wire.desk l.wire).log

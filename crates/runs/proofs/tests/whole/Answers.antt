@@ -1,0 +1,16 @@
+use Rattle.std.proofs.Common.{◌≡◌, [], ◌∷◌, rules, refl, ◌∙◌}
+use Rattle.rank_core.specs.Samples.{two}
+use Rattle.rank_core.specs.Standing.{StandsIn}
+use Rattle.rank_core.proofs.Samples.{here_first}
+use Rattle.runs.proofs.Couples.{both_new, both_together}
+use Rattle.runs.proofs.tests.whole.Goals as goal
+
+pub run-requires-clause-together : goal.run-requires-clause-together
+run-requires-clause-together g c κs within =
+    let e : c.push-2.new.self.items ≡ c.first.result ∷ c.second.result ∷ [] = search rules in
+    (c.args.visit, two, both_together (StandsIn g.V.Visit g.V.Acc.Seen) c.args.visit two c.first.result c.second.result c.push-2.new.self.items e here_first.good refl c.first.ensures.stands c.second.ensures.stands c.first.ensures.visit (c.second.ensures.visit ∙ c.requires.same))
+
+pub run-requires-clause-new : goal.run-requires-clause-new
+run-requires-clause-new g c κs within =
+    let e : c.push-2.new.self.items ≡ c.first.result ∷ c.second.result ∷ [] = search rules in
+    both_new c.first.result c.second.result c.push-2.new.self.items e c.first.ensures.new c.second.ensures.new

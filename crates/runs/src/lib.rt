@@ -1,0 +1,8 @@
+//! The rounds of all ranks.
+#![tactic(auto)]
+
+mod rounds;
+#[cfg(test)]
+mod tests;
+
+pub use rounds::run;
