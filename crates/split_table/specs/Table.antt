@@ -33,10 +33,14 @@ branch_cells w = filter (is_listed w w.ranks) (cells w.bodies)
 abbrev pub branch_of : World → ℕ → Listed
 branch_of w c = record { rank = first_rank w (bodies_in w c); rec = cell_record w.bodies c }
 
+-- the branches of a set that is split over ranks, by ascending key
+abbrev pub branches_over : OrderedValue → ℕ → List Listed
+branches_over set ranks = map (branch_of (world_of set ranks)) (branch_cells (world_of set ranks))
+
 -- what a set that is split over ranks shows
 abbrev pub table_of : OrderedValue → ℕ → TableValue
 table_of set ranks = record {
   shares = map (share_of set ranks) (numbers_below ranks);
-  branches = map (branch_of (world_of set ranks)) (branch_cells (world_of set ranks));
+  branches = branches_over set ranks;
   tops = map (cell_record set.bodies) (tops (world_of set ranks));
 }

@@ -1,5 +1,6 @@
 -- A split as text: a first line, a line for each rank, for each branch and for each top cell, and a last line.
 use Rattle.std.specs.Prelude.{ℕ, List, ◌++◌, flat_map, codes, decimal}
+use Rattle.hot_io.specs.Writing.{line_end}
 use Rattle.hot_model.specs.Values.{CellValue}
 use Rattle.branch_merge.specs.declared.listed.Listed.{Listed}
 use Rattle.split_table.specs.declared.share.Share.{Share}
@@ -8,10 +9,6 @@ use Rattle.split_table.specs.Table.{TableValue}
 -- the first line says what follows
 abbrev pub first_line : List ℕ
 first_line = codes "# hot split 1\n"
-
--- what a line ends with
-abbrev pub line_end : List ℕ
-line_end = codes "\n"
 
 -- the line of a rank
 abbrev pub share_line : Share → List ℕ

@@ -1,14 +1,18 @@
 // The branches of all ranks in one list.
-ghost use Rattle.std.specs.Prelude.{◌≡◌, map, ltb, IfOk};
+ghost use Rattle.std.specs.Prelude.{◌≡◌, ◌≤◌, map, ltb, IfOk};
 ghost use Rattle.std.specs.Ordering.{is_lt};
+ghost use Rattle.hot_model.specs.Limits.{max_ranks};
 ghost use Rattle.hot_model.specs.World.{World};
-ghost use Rattle.split_table.specs.Table.{branch_of, branch_cells};
+ghost use Rattle.split_table.specs.Table.{branch_of, branch_cells, branches_over};
 ghost use Rattle.split_table.specs.Steps.{AreLists, AreByKey};
 
+use crate::lists::lists_of;
+use body_set::Ordered;
 use branch_merge::{Listed, gathered};
 use hot_model::RecList;
 use std::alloc::{AllocError, Global};
 use std::cmp::Ordering;
+use work_split::split;
 
 /// Which of two records comes first: by the key of its cell.
 fn by_key(a: &Listed, b: &Listed) -> Ordering
@@ -32,4 +36,21 @@ pub fn all_branches(alloc: Global, lists: &[RecList]) -> Result<Vec<Listed>, All
 {
     let listed = gathered(alloc, lists)?;
     Ok(in_key_order(listed))
+}
+
+/// The branches of a set that is split over 1 to 64 ranks by its work weights (Warren and Salmon, 1993), by ascending key,
+/// each with its rank and its record over all bodies: those of a [`SplitTable`](crate::SplitTable), without the top
+/// cells. A refusal is want of memory.
+pub fn branches_of_ranks(
+    alloc: Global,
+    set: &Ordered,
+    ranks: u32,
+) -> Result<Vec<Listed>, AllocError>
+    requires one { 1 ≤ ranks }
+    requires many { ranks ≤ max_ranks }
+    ensures value { IfOk result (λ v. v.items ≡ branches_over set.now ranks) }
+{
+    let pieces = split(alloc, set, ranks)?;
+    let lists = lists_of(alloc, set, &pieces, ranks)?;
+    all_branches(alloc, &lists)
 }

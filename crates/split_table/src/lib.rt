@@ -4,7 +4,6 @@
 
 mod branches;
 mod laws;
-mod line;
 mod lists;
 mod share;
 mod table;
@@ -13,6 +12,7 @@ mod tests;
 mod text;
 mod tops;
 
+pub use branches::branches_of_ranks;
 pub use laws::cells_are_shown;
 pub use share::Share;
 pub use table::SplitTable;

@@ -1,19 +1,18 @@
 // A split as text.
 ghost use Rattle.std.specs.Prelude.{◌≡◌, ◌+◌, ◌≤◌, ◌++◌, length, flat_map};
 ghost use Rattle.hot_io.specs.Faults.{FailsExactly};
-ghost use Rattle.hot_io.specs.Writing.{Writes};
+ghost use Rattle.hot_io.specs.Writing.{Writes, line_end};
 ghost use Rattle.split_table.specs.Text as text;
 
-use crate::line::{LINE, Line};
 use crate::{Share, SplitTable};
 use branch_merge::Listed;
-use hot_io::{Failed, Sink, write_all};
+use hot_io::{Failed, LINE_ROOM, Line, Sink, write_all};
 use hot_model::CellRec;
 
 /// Adds the numbers of a record to a line: the count, the mass and the three sums.
 fn add_numbers(line: &mut Line, rec: &CellRec)
-    requires room { length line.old + 226 ≤ LINE }
-    ensures text { line.new ++ text.line_end ≡ line.old ++ text.numbers_of rec.now }
+    requires room { length line.old + 226 ≤ LINE_ROOM }
+    ensures text { line.new ++ line_end ≡ line.old ++ text.numbers_of rec.now }
     ensures short { length line.new ≤ length line.old + 225 }
 {
     line.add(" count ", rec.count);
