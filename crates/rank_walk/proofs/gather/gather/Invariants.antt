@@ -1,0 +1,13 @@
+use Rattle.std.proofs.Common.{◌≡◌, ◌++◌, length}
+use Rattle.hot_model.specs.World.{World}
+use Rattle.rank_core.specs.Standing.{StandsIn, meant_by}
+use Rattle.runs.specs.Running.{Together}
+use Rattle.rank_walk.specs.Efforts.{AreFindsTo}
+use Rattle.rank_walk.proofs.gather.gather.Given as goal
+
+abbrev pub invariant-loop-rank : goal.invariant-loop-rank
+invariant-loop-rank g l = record {
+  all : l.yielded ++ l.rank-iterator.rest.items ≡ l.fn.ranks.items;
+  finds : (v : _) (w : World) → Together (StandsIn g.V.Visit g.V.Acc.Seen) v w l.fn.ranks.items → AreFindsTo (meant_by g.V.Visit g.V.Acc.Seen v) w (length l.yielded) l.found.accs.items l.found.efforts.items l.found.opened.items;
+  rounds : l.found.rounds ≡ l.fn.rounds;
+}

@@ -1,0 +1,23 @@
+use Rattle.std.proofs.Common.{refl}
+use Rattle.rank_walk.specs.Sharings.{shared}
+use Rattle.rank_walk.proofs.Making.{here_is, shared_good, made_of}
+use Rattle.rank_walk.proofs.make.make_rank.Goals as goal
+
+here_at : goal.new-requires-clause-fits
+here_at g c κs within = (
+  shared c.args.set.now c.args.sharing,
+  here_is c.args.set.now c.args.sharing c.args.pieces.now c.args.q c.range-from.result.0 c.range-from.result.1 c.bodies-bodies.result.now _ c.neighbours-left.result.0 c.neighbours-left.result.1
+      c.bodies-bodies.ensures.facts c.args.sharing.one c.requires.ranks c.requires.split (c.range-from.ensures.piece c.args.set.now c.bodies-bodies.ensures.facts) c.bodies-bodies.ensures.value refl c.neighbours-left.ensures.left c.neighbours-left.ensures.right,
+)
+
+pub new-requires-clause-fits : goal.new-requires-clause-fits
+new-requires-clause-fits g c κs within = here_at g c κs within
+
+pub returns-clause-made : goal.returns-clause-made
+returns-clause-made g c =
+    made_of _ c.args.visit (shared c.args.set.now c.args.sharing) c.args.q _ _ _ _ _ c.new.result c.new.ensures.fresh c.new.ensures.stands
+    (here_is c.args.set.now c.args.sharing c.args.pieces.now c.args.q c.range-from.result.0 c.range-from.result.1 c.bodies-bodies.result.now _ c.neighbours-left.result.0 c.neighbours-left.result.1
+    c.bodies-bodies.ensures.facts c.args.sharing.one c.requires.ranks c.requires.split (c.range-from.ensures.piece c.args.set.now c.bodies-bodies.ensures.facts) c.bodies-bodies.ensures.value refl c.neighbours-left.ensures.left c.neighbours-left.ensures.right)
+
+pub returns-clause-good : goal.returns-clause-good
+returns-clause-good g c = shared_good c.args.set.now c.args.sharing c.bodies-bodies.ensures.facts c.args.sharing.one

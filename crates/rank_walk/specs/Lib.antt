@@ -1,0 +1,6 @@
+pub mod Sharings
+pub mod Efforts
+pub mod Marks
+pub mod Made
+pub mod Standing
+pub mod Places
