@@ -1,0 +1,5 @@
+-- Lemmas on reports.
+pub mod Joins
+pub mod CellsInPlay
+pub mod Reports
+pub mod Sums
