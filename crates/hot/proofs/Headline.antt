@@ -1,0 +1,64 @@
+-- What a run that came to its end has asked for.
+use Rattle.std.proofs.Common.{ℕ, ◌≡◌, ◌≤◌, ◌+◌, Bool, true, List, [], ◌∷◌, Contains, ◌⊎◌, ◌↔◌, Some, refl, ap, sym, ◌∙◌, subst, inl, inr, arith}
+use Rattle.hot_model.specs.Needs.{Needs, needed}
+use Rattle.hot_model.proofs.Counts.{needed-are}
+use Rattle.round_runner.specs.declared.entry.Note.{Note}
+use Rattle.round_runner.specs.declared.entry.Entry.{Entry}
+use Rattle.round_runner.specs.declared.entry.Entry.TheVariants.{Posted, Taken, Round}
+use Rattle.round_runner.specs.Desk.{Desk}
+use Rattle.round_runner.specs.Notes.{note_of}
+use Rattle.rank_core.specs.Times.{times}
+use Rattle.protocol.specs.Counts.{in_letters, in_posted, asks_by}
+use Rattle.protocol.proofs.Keeping.{asks_exactly}
+use Rattle.protocol.proofs.Weights.{times-has, has-times, has_or_not}
+use Rattle.protocol.proofs.Bridges.{asked-times}
+use Rattle.body_set.specs.Sets.{SetValue}
+use Rattle.hot_words.specs.Commands.{JobValue}
+use Rattle.rank_walk.specs.Marks.{HasRun}
+use Rattle.hot.specs.Runs.{WireUse, unused, used, Wired, opens_in, world_in, letters_of, keys_asked, RunLeaves, AsksExactly}
+
+-- what posted letters weigh in a log they weigh as letters
+posted_letters : (f : Note → ℕ) (log : List Entry) → in_posted f log ≡ in_letters f (letters_of log)
+posted_letters f [] = refl
+posted_letters f (Posted l ∷ log) = ap (λ n. f (note_of l) + n) (posted_letters f log)
+posted_letters f (Taken n ∷ log) = posted_letters f log
+posted_letters f (Round ∷ log) = posted_letters f log
+
+-- how often a key was asked for
+asked_count : (q c : ℕ) (log : List Entry) → times c (keys_asked q log) ≡ in_posted (asks_by q c) log
+asked_count q c log = asked-times q c (letters_of log) ∙ sym (posted_letters (asks_by q c) log)
+
+-- a run that came to its end
+module _ (job : JobValue) (set : SetValue) (d : Desk) (run : HasRun (opens_in job) (world_in job set) job.mail d) where
+  exact : (q c : ℕ) → (Needs (opens_in job) (world_in job set) q c → in_posted (asks_by q c) d.log ≡ 1) × ((Needs (opens_in job) (world_in job set) q c → ⊥) → in_posted (asks_by q c) d.log ≡ 0)
+  exact q c = asks_exactly (opens_in job) (world_in job set) d.log run.begun.legal run.complete q c
+
+  -- a cell is needed or it is not
+  needs_or_not : (q c : ℕ) → Needs (opens_in job) (world_in job set) q c ⊎ (Needs (opens_in job) (world_in job set) q c → ⊥)
+  needs_or_not q c = elim (has_or_not c (needed (opens_in job) (world_in job set) q)) [
+    | inl h ↦ inl ((needed-are (opens_in job) (world_in job set) q c).0 h)
+    | inr z ↦ inr (λ n. let t = times-has c (needed (opens_in job) (world_in job set) q) ((needed-are (opens_in job) (world_in job set) q c).1 n) in omega arith)
+  ]
+
+  pub asked_needs : (q c : ℕ) → Contains (keys_asked q d.log) c ↔ Needs (opens_in job) (world_in job set) q c
+  asked_needs q c = (
+    (λ h. elim (needs_or_not q c) [
+      | inl n ↦ n
+      | inr no_need ↦ absurd (let t = times-has c (keys_asked q d.log) h in let e = asked_count q c d.log in let z = (exact q c).1 no_need in omega arith)
+    ]),
+    (λ n. has-times c (keys_asked q d.log) (let e = asked_count q c d.log in let z = (exact q c).0 n in omega arith)),
+  )
+
+  pub asked_once : (q c : ℕ) → times c (keys_asked q d.log) ≤ 1
+  asked_once q c = elim (needs_or_not q c) [
+    | inl n ↦ (let e = asked_count q c d.log in let z = (exact q c).0 n in omega arith)
+    | inr no_need ↦ (let e = asked_count q c d.log in let z = (exact q c).1 no_need in omega arith)
+  ]
+
+  pub asks : AsksExactly job set d
+  asks = record { ran = run; asked = asked_needs; once = asked_once; letters = run.letters; bound = run.bound; few = λ e. run.few (run.prompt e); mail = run.begun.mail_is }
+
+-- the same of the wire after a call
+pub headline : {W : Type 0} (desk : W → Desk) (old new : W) (job : JobValue) (set : SetValue) (wire : WireUse) → Wired desk old new wire → RunLeaves (Some job) set wire → AsksExactly job set (desk new)
+headline desk old new job set unused w left = absurd left
+headline desk old new job set (used d) w left = subst (λ (x : Desk). AsksExactly job set x) (sym w.0) (asks job set d left)

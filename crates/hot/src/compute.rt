@@ -1,0 +1,167 @@
+// Runs over ranks, and what is printed of them.
+ghost use Rattle.std.specs.Prelude.{◌≡◌, ◌≤◌, ℕ, List, [], Some, All, IfOk};
+ghost use Rattle.hot_model.specs.Limits.{max_bodies};
+ghost use Rattle.hot_model.specs.Forces.{RowsCount};
+ghost use Rattle.sdf_rows.specs.Columns.{Is64Bits};
+ghost use Rattle.body_file.specs.Files.{HasBodies};
+ghost use Rattle.body_maker.specs.Made.{made_set};
+ghost use Rattle.hot_words.specs.Commands.{job_value};
+ghost use Rattle.hot.specs.Runs.{WireUse, Wired, log_of};
+ghost use Rattle.hot.specs.Texts.{sample_of};
+ghost use Rattle.hot.specs.Prepared.{IsWalkOf, WalkLeaves, walk_report, IsRunOf, AreForcesOf, ComputeLeaves};
+
+use crate::answer::Forces;
+use body_maker::sample_bodies;
+use body_set::{BodySet, Ordered};
+use fixed_kernel::ForceVisit;
+use hot_model::Acc3;
+use hot_words::Job;
+use rank_walk::{Found, Sharing, place_by_row, walk_over_ranks};
+use round_runner::{Gate, Wire};
+use run_report::{RunReport, Sample};
+use std::alloc::{AllocError, Global};
+use std::thread::Threads;
+
+/// What a run gives: the bodies in key order, the forces on them in the order of their rows, and the report, where it is
+/// asked for.
+#[derive(Drop)]
+struct Ran {
+    ordered: Ordered,
+    forces: Vec<Acc3>,
+    report: Option<RunReport>,
+}
+
+/// How the walk of a run is shared out.
+fn sharing_of(job: &Job<'_>) -> Sharing
+    ensures ranks { result.ranks ≡ job.now.ranks }
+    ensures leaf { result.leaf ≡ job.now.leaf }
+    ensures mail { result.mail ≡ job.now.mail }
+{
+    Sharing {
+        ranks: job.ranks,
+        leaf: job.leaf,
+        mail: job.mail,
+    }
+}
+
+/// The walk of all bodies by gravity, shared out over ranks.
+fn walk_job<R: Threads + Sync, M: Wire, G: Gate>(
+    rt: &R,
+    alloc: Global,
+    job: &Job<'_>,
+    ordered: &Ordered,
+    wire: &mut M,
+    gate: &G,
+) -> Result<Found<Acc3>, AllocError>
+    requires quiet { (M.desk wire.old).pending ≡ [] }
+    ensures walked { (wu : WireUse) × Wired M.desk wire.old wire.new wu
+        × WalkLeaves (job_value job.now) ordered.now wu result
+        × IfOk result (λ f. IsWalkOf (job_value job.now) ordered.now (log_of wu)
+        f.accs.items f.efforts.items f.opened.items f.rounds) }
+{
+    let visit = ForceVisit::new(job.ratio, job.eps);
+    walk_over_ranks(rt, alloc, ordered, sharing_of(job), visit, wire, gate)
+}
+
+/// The report of a walk, where it is asked for.
+fn report_if<M: Wire>(
+    alloc: Global,
+    job: &Job<'_>,
+    ordered: &Ordered,
+    found: &Found<Acc3>,
+    wire: &M,
+    shows: bool,
+) -> Result<Option<RunReport>, AllocError>
+    requires walked { IsWalkOf (job_value job.now) ordered.now (M.desk wire.now).log
+        found.now.accs.items found.now.efforts.items found.now.opened.items found.now.rounds }
+    ensures report { IfOk result (λ r.
+        r ≡ walk_report shows (job_value job.now) ordered.now (M.desk wire.now).log) }
+{
+    if !shows {
+        return Ok(None);
+    }
+    let report = RunReport::of(alloc, ordered, sharing_of(job), found, wire.letters())?;
+    Ok(Some(report))
+}
+
+/// A run on the bodies of a set.
+fn compute_run<R: Threads + Sync, M: Wire, G: Gate>(
+    rt: &R,
+    alloc: Global,
+    job: &Job<'_>,
+    set: BodySet,
+    shows: bool,
+    wire: &mut M,
+    gate: &G,
+) -> Result<Ran, AllocError>
+    requires rows { RowsCount set.bodies }
+    requires quiet { (M.desk wire.old).pending ≡ [] }
+    ensures ran { (wu : WireUse) × Wired M.desk wire.old wire.new wu
+        × ComputeLeaves (Some (job_value job.now)) set wu result
+        × IfOk result (λ r. IsRunOf (job_value job.now) set shows (log_of wu)
+        r.ordered r.forces.items r.report) }
+{
+    let ordered = set.order(alloc)?;
+    let found = walk_job(rt, alloc, job, &ordered, wire, gate)?;
+    let report = report_if(alloc, job, &ordered, &found, wire, shows)?;
+    let forces = place_by_row(alloc, ordered.bodies(), found.accs)?;
+    Ok(Ran {
+        ordered,
+        forces,
+        report,
+    })
+}
+
+/// The forces on the bodies of a file, by a run over ranks. They are put into the order of the file.
+pub fn compute_forces<R: Threads + Sync, M: Wire, G: Gate>(
+    rt: &R,
+    alloc: Global,
+    job: &Job<'_>,
+    set: BodySet,
+    wire: &mut M,
+    gate: &G,
+) -> Result<Forces, AllocError>
+    requires named { All Is64Bits set.idents }
+    requires of_a_file { (bytes : List ℕ) × HasBodies bytes set }
+    requires quiet { (M.desk wire.old).pending ≡ [] }
+    ensures computed { (wu : WireUse) × Wired M.desk wire.old wire.new wu
+        × ComputeLeaves (Some (job_value job.now)) set wu result
+        × IfOk result (AreForcesOf (job_value job.now) set (log_of wu)) }
+{
+    let ran = compute_run(rt, alloc, job, set, job.report, wire, gate)?;
+    Ok(Forces {
+        ordered: ran.ordered,
+        forces: ran.forces,
+        report: ran.report,
+    })
+}
+
+/// What is shown of a run on generated bodies.
+pub fn compute_sample<R: Threads + Sync, M: Wire, G: Gate>(
+    rt: &R,
+    alloc: Global,
+    bodies: u32,
+    seed: u64,
+    job: &Job<'_>,
+    wire: &mut M,
+    gate: &G,
+) -> Result<Sample, AllocError>
+    requires few { bodies ≤ max_bodies }
+    requires quiet { (M.desk wire.old).pending ≡ [] }
+    ensures computed { (wu : WireUse) × Wired M.desk wire.old wire.new wu
+        × ComputeLeaves (Some (job_value job.now)) (made_set bodies seed) wu result
+        × IfOk result (λ s.
+        s ≡ sample_of bodies seed (job_value job.now) (made_set bodies seed) (log_of wu)) }
+{
+    let set = sample_bodies(alloc, bodies, seed)?;
+    let ran = compute_run(rt, alloc, job, set, true, wire, gate)?;
+    let Ran {
+        ordered: _ordered,
+        forces,
+        report,
+    } = ran;
+    let Some(report) = report else {
+        return Err(AllocError);
+    };
+    Ok(Sample::of(bodies, seed, report, &forces))
+}
