@@ -2,11 +2,12 @@
 
 Usage: tools/check [--program PATH | --try] [--cases N] [--seed S]
 
-The cases are those worked by hand, files at the limits, streams that fail, and N random ones: body files of every
-layout, trees cut on many ranks, changed headers, spoilt rows, and lists of words. Output, error stream and status are
-compared. The program is the built one, which `./hot` builds where it is not built yet; with --try it is the same source
-without proof (`rt try`), over N of all these cases that take no file, no stream that fails and no odd word. N is 900,
-and 60 with --try.
+The cases are those worked by hand, files at the limits, streams that fail or have little room, and N random ones:
+runs over ranks with weights, mails and reports, generated bodies and samples, body files of every layout, trees cut on
+many ranks, changed headers, spoilt rows, and lists of words. Output, error stream and status are compared. The program
+is the built one, which `./hot` builds where it is not built yet; with --try it is the same source without proof
+(`rt try`), over N of all these cases that take no file, no stream that fails, no odd word and not too many bodies, and
+print lines. N is 1300, and 60 with --try.
 """
 
 import argparse
@@ -20,30 +21,38 @@ import sys
 import tempfile
 import time
 import tty
-from concurrent.futures import ThreadPoolExecutor
+from concurrent.futures import ProcessPoolExecutor, ThreadPoolExecutor
 
 from cases import Case
 from cases.calls import good_words, random_call
 from cases.faults import long_header, mutated_header, plain_file, spoilt_rows, wide_header
+from cases.large import large_cases, largest
 from cases.layouts import pick_file
+from cases.runs import make_case, run_case, sample_case
 from cases.splits import split_case
 from cases.worked import worked
+from cases.worked_runs import worked_runs
 from reference.program import answer
 from unproved import can_try, run_unproved
 
 TOP = os.path.dirname(os.path.dirname(os.path.abspath(__file__)))
 MAX_BROKEN = 1024  # bytes that a terminal holds
+MOST_SHOWN = 10000  # bytes of a text that differs
+STREAMS = ["out", "err"]
+LIMITED = """import os, resource, sys
+resource.setrlimit(resource.RLIMIT_FSIZE, (int(sys.argv[1]),) * 2)
+os.execv(sys.argv[2], sys.argv[2:])"""  # runs a program whose files take no more bytes than this
 BUILT = os.path.join(TOP, "crates", "hot", "out", "hot")
 
 
 def random_case(rng):
     """A random case, of a kind by its share."""
-    kinds = {"layout": 35, "split": 55, "header": 30, "wide": 4, "long": 3, "rows": 15, "words": 25}
+    whole = {"run": run_case, "sample": sample_case, "make": make_case, "split": split_case, "words": random_call}
+    kinds = {"run": 55, "sample": 18, "make": 5, "split": 45, "layout": 30, "header": 28, "wide": 4, "long": 3}
+    kinds |= {"rows": 14, "words": 33}
     kind = rng.choices([*kinds], [*kinds.values()])[0]
-    if kind == "words":
-        return random_call(rng)
-    if kind == "split":
-        return split_case(rng)
+    if kind in whole:
+        return whole[kind](rng)
     make = {
         "layout": lambda rng: pick_file(rng).data(rng),
         "header": mutated_header,
@@ -55,27 +64,33 @@ def random_case(rng):
     return Case(kind, good_words(rng, command), make(rng))
 
 
+def room_case(rng):
+    """A call with a stream that fails within, or just behind, what is written to it."""
+    case = rng.choices([run_case, sample_case, make_case, split_case], [6, 1, 1, 1])[0](rng)
+    stream = rng.choice(STREAMS)
+    case.kind = "room"
+    length = len(answer(case)[1 + STREAMS.index(stream)])
+    case.room = {stream: max(0, length - rng.choice([-1, 0, 1, 2, length // 2, rng.randint(0, length)]))}
+    return case
+
+
 def stream_cases(rng):
-    """Streams that take no byte, and inputs that fail behind their last byte."""
+    """Streams that take no byte or only a few, and inputs that fail behind their last byte."""
     good, cut = plain_file(rng, 3, "x,y,z", "3"), plain_file(rng, 3, "x,y,z", "4")
+    words = [["forces"], ["forces", "-h"], ["force"], ["make"], ["make", "--seed"], ["split", "--ranks", "0"]]
+    words += [["forces", "--ranks", "3", "--report"], ["split", "--ranks", "2"], ["sample", "--bodies", "9"]]
     cases = [
-        Case("full", ["forces"], good, full="out"),
-        Case("full", ["forces"], good, full="err"),
-        Case("full", ["forces"], cut, full="out"),
-        Case("full", ["forces"], cut, full="err"),
-        Case("full", ["forces", "-h"], full="err"),
-        Case("full", ["force"], full="err"),
-        Case("full", ["make"], full="out"),
-        Case("full", ["split", "--ranks", "2"], good, full="out"),
-        Case("full", ["split", "--ranks", "2"], good, full="err"),
-        Case("full", ["split"], cut, full="out"),
-        Case("full", ["split"], cut, full="err"),
-        Case("full", ["split", "--ranks", "0"], good, full="err"),
+        Case("full", call, data, room={stream: 0}, unread=unread)
+        for call in words
+        for data in (good, cut)
+        for stream in STREAMS
+        for unread in (False, True)
     ]
-    whole = [*(data for _, data, _ in worked()), *(spoilt_rows(rng) for _ in range(20))]
+    cases += [room_case(rng) for _ in range(40)]
+    whole = [*(case.stdin for case, _ in worked()), *(spoilt_rows(rng) for _ in range(20))]
     for data in [b"# SDX", good + b"\0", *(mutated_header(rng) for _ in range(20)), *whole]:
         if len(data) <= MAX_BROKEN:
-            words = ["split"] if rng.random() < 0.25 else ["forces"]
+            words = rng.choice([["split"], ["forces"], ["forces", "--ranks", "2"], ["forces", "--report"]])
             cases.append(Case("broken", words, data, broken=True))
             cases.append(Case("broken", words, data[: rng.randint(0, len(data))], broken=True))
     return cases
@@ -104,6 +119,15 @@ def failing_input(data):
         os.close(master)
 
 
+def without_room(unread):
+    """A stream that takes no byte: a pipe that nobody reads, or a full device."""
+    if not unread:
+        return open("/dev/full", "wb")
+    reader, writer = os.pipe()
+    os.close(reader)
+    return open(writer, "wb")
+
+
 def run(program, case):
     """What the program answers, in a folder that has the files of the case."""
     with contextlib.ExitStack() as stack:
@@ -111,26 +135,36 @@ def run(program, case):
         for name, data in case.files.items():
             with open(os.path.join(folder, name), "wb") as file:
                 file.write(data)
+        command = [program, *case.words]
         streams = {"stdout": subprocess.PIPE, "stderr": subprocess.PIPE, "input": case.stdin}
-        if case.full:
-            streams[f"std{case.full}"] = stack.enter_context(open("/dev/full", "wb"))
+        for stream, room in case.room.items():
+            file = tempfile.TemporaryFile() if room else without_room(case.unread)
+            streams[f"std{stream}"] = stack.enter_context(file)
+            if room:
+                command = [sys.executable, "-c", LIMITED, str(room), *command]
         if case.broken:
             del streams["input"]
             streams["stdin"] = stack.enter_context(failing_input(case.stdin))
-        got = subprocess.run([program, *case.words], check=False, cwd=folder, **streams)
-    return got.returncode, got.stdout or b"", got.stderr or b""
+        got = subprocess.run(command, check=False, cwd=folder, **streams)
+        texts = {"out": got.stdout or b"", "err": got.stderr or b""}
+        for stream, room in case.room.items():
+            if room:
+                streams[f"std{stream}"].seek(0)
+                texts[stream] = streams[f"std{stream}"].read()
+    return got.returncode, texts["out"], texts["err"]
 
 
 def gather(rng, count):
     """Pairs of a case and the answer wanted."""
     pairs = []
-    for words, data, wanted in worked():
-        case = Case("worked", words, data)
+    for case, wanted in [*worked(), *worked_runs()]:
         if answer(case) != wanted:
-            sys.exit(f"the second computation is wrong at {words} < {data}: {answer(case)} for {wanted}")
+            sys.exit(f"the second computation is wrong at {case}: {answer(case)} for {wanted}")
         pairs.append((case, wanted))
-    cases = stream_cases(rng) + limit_cases(rng) + [random_case(rng) for _ in range(count)]
-    pairs += [(case, answer(case)) for case in cases]
+    cases = stream_cases(rng) + limit_cases(rng) + large_cases() + [random_case(rng) for _ in range(count)]
+    with ProcessPoolExecutor() as pool:
+        pairs += zip(cases, pool.map(answer, cases, chunksize=8))
+    pairs += largest()
     pairs.append((Case("no text", ["forces", b"\xff"]), (2, b"", b"")))
     return pairs
 
@@ -140,9 +174,10 @@ def show(number, case, wanted, got):
     name = f"/tmp/hot-case-{number}.sdf"
     with open(name, "wb") as file:
         file.write(case.stdin)
-    print(f"case {number} ({case.kind}) differs: {case.words} < {name}", file=sys.stderr)
+    print(f"case {number} ({case.kind}) differs: {case.words} < {name} {case.room or ''}", file=sys.stderr)
     for who, (status, out, err) in (("wanted", wanted), ("got", got)):
-        print(f"{who} {status} {err!r}\n{out.decode(errors='replace')}", file=sys.stderr)
+        texts = (text[:MOST_SHOWN].decode(errors="backslashreplace") for text in (out, err))
+        print(f"{who} {status}", *texts, sep="\n", file=sys.stderr)
 
 
 def built_program():
@@ -160,7 +195,7 @@ def main():
     parser.add_argument("--cases", type=int)
     parser.add_argument("--seed", type=int, default=1)
     options = parser.parse_args()
-    count = options.cases or (60 if options.unproved else 900)
+    count = options.cases or (60 if options.unproved else 1300)
     begin = time.monotonic()
     print(f"seed {options.seed}", flush=True)
     pairs = gather(random.Random(options.seed), count)

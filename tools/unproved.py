@@ -8,12 +8,13 @@ import tempfile
 
 
 def can_try(case):
-    """Whether `rt try` can run a case: words that are lines of text, none of a file, and not too long an input."""
+    """Whether `rt try` can run a case: words that are lines of text, none of a file, an input that is not too long, not
+    too many bodies, and an output of lines, since it ends the last one."""
     words = [word for word in case.words if isinstance(word, str)]
     plain = all(word.strip() == word != "" and "\n" not in word and "{}" not in word for word in words)
-    if case.files or case.full or case.broken or len(case.stdin) >= 1 << 19:
+    if case.kind == "large" or case.files or case.room or case.broken or len(case.stdin) >= 1 << 19:
         return False
-    return bool(words) and plain and len(words) == len(case.words)
+    return bool(words) and plain and len(words) == len(case.words) and words[0] != "make"
 
 
 def run_unproved(top, cases):

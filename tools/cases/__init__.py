@@ -9,5 +9,6 @@ class Case:
     words: list
     stdin: bytes = b""
     files: dict = field(default_factory=dict)
-    full: str = ""  # the stream, `out` or `err`, that takes no byte
+    room: dict = field(default_factory=dict)  # of `out`, `err` or both: the bytes that the stream takes until it fails
+    unread: bool = False  # whether a stream without room is a pipe that nobody reads, and no full device
     broken: bool = False  # whether standard input fails behind its bytes

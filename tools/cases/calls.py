@@ -4,7 +4,10 @@ import random
 
 from cases import Case
 from cases.layouts import pick_file
+from reference.header import Refused
+from reference.words import read
 
+MOST_SAMPLED = 200  # bodies of a sample, for the second computation's sake
 COMMANDS = ["forces", "split", "make", "sample"]
 OPTIONS = ["--ranks", "--theta", "--eps", "--leaf", "--mail", "--form", "--bodies", "--seed", "--report"]
 GOOD = {
@@ -14,7 +17,7 @@ GOOD = {
     "--leaf": ["1", "8", "64"],
     "--mail": ["prompt", "prompt", "last", "single", "0", "18446744073709551615"],
     "--form": ["text", "text", "sdf"],
-    "--bodies": ["0", "262144", "10"],
+    "--bodies": ["0", "10", "33", "01", "262144"],
     "--seed": ["0", "18446744073709551615"],
 }
 BAD = """0 65 -1 +1 1.0 0x1 18446744073709551616 000000000000000000001 99999999999999999999 268435457 262145 1025 1/0 1025/1
@@ -35,14 +38,23 @@ def split_words(rng):
 
 
 def good_words(rng, command="forces"):
-    """Words of a run that this stage has, or nearly."""
+    """Words of a good call, or nearly."""
     if command == "split":
         return split_words(rng)
-    words = []
-    for option in rng.sample(["--theta", "--eps", "--leaf", "--ranks", "--mail", "--form"], rng.randint(0, 4)):
-        here = option in ("--theta", "--eps", "--leaf")
-        words.append([option, rng.choice(GOOD[option]) if here else GOOD[option][0]])
+    options = ["--theta", "--eps", "--leaf", "--ranks", "--mail"]
+    words = [[option, rng.choice(GOOD[option])] for option in rng.sample(options, rng.randint(0, 4))]
+    if rng.random() < 0.3:
+        words.insert(rng.randint(0, len(words)), rng.choice([["--report"], ["--form", "text"]]))
     return [command, *[word for option in words for word in option]]
+
+
+def is_long(words):
+    """Whether words ask for a sample of many bodies."""
+    try:
+        command, options, _ = read(words)
+    except Refused:
+        return False
+    return command == "sample" and options["--bodies"] > MOST_SAMPLED
 
 
 def random_words(rng):
@@ -55,12 +67,16 @@ def random_words(rng):
         pool = OPTIONS[:6] + OPTIONS[8:]
     elif words[0] == "split" and rng.random() < 0.8:
         pool, count = ["--ranks"], rng.choice([0, 1, 1, 1, 2])
+    elif words[0] == "make" and rng.random() < 0.8:
+        pool, count = ["--bodies", "--seed"], rng.choice([0, 1, 1, 2, 2])
+    elif words[0] == "sample" and rng.random() < 0.8:
+        pool = [*OPTIONS[:5], "--bodies", "--bodies", "--seed"]
     for _ in range(count):
         option = rng.choice(pool)
         words.append(option)
         if option != "--report":
             words.append(pick_value(rng, option))
-    if rng.random() < 0.5:
+    if rng.random() < (0.5 if words[0] in ("forces", "split") else 0.1):
         words.append(rng.choice(NAMES))
     if rng.random() < 0.3:
         at = rng.randrange(1, len(words) + 1)
@@ -90,4 +106,6 @@ def random_call(rng):
         words = [*good_words(rng, rng.choice(["forces", "forces", "forces", "split"])), rng.choice(NAMES)]
     else:
         words = random_words(rng)
+        while is_long(words):
+            words = random_words(rng)
     return Case("words", words, pick_file(own, 5).data(own), files)

@@ -2,6 +2,8 @@
 
 import struct
 
+from cases import Case
+
 HEAD = "# SDF\nparameter byteorder = 0x78563412;\nint cube_bits = 21;\nstruct {{\n{columns}\n}}[{count}];\n# SDF-EOH\n"
 CONVERTER = b"""# SDF 1.0
 parameter byteorder = 0x78563412;
@@ -138,13 +140,10 @@ GOOD_VALUES = {
     "--theta": ["0/1", "1024/1024", "1/1024", "00000000000000000001/01"],
     "--eps": ["1", "268435456", "00000000000000000001"],
     "--leaf": ["1", "64"],
-    "--ranks": ["1"],
-    "--mail": ["prompt"],
+    "--ranks": ["1", "64", "064"],
+    "--mail": ["prompt", "last", "single", "0", "00000000000000000005", "18446744073709551615"],
     "--form": ["text"],
 }
-LATER = """make;make --bodies 262144 --seed 18446744073709551615;sample --leaf 1;sample --ranks 2
-forces --ranks 2;forces --ranks 64;forces --mail last;forces --mail single;forces --mail 0
-forces --mail 18446744073709551615;forces --form sdf;forces --report;forces --report nowhere""".replace("\n", ";").split(";")
 WORK = "# SDF\nint mass = 3; struct {int8_t x, y, z; int64_t work;}[1];\n# SDF-EOH\n".encode() + b"\0\0\0"
 
 # words, standard input, status, output or text of refusal
@@ -265,7 +264,6 @@ WORKED = [
     ("forces --leaf 8 --leaf", b"", 2, "A5 option given twice --leaf"),
     ("forces --ranks 0 f", b"", 2, "A6 bad value 0 for --ranks"),
     ("forces a b", b"", 2, "A7 extra word a"),
-    ("make", b"", 2, "A0 words of a later stage"),
     ("forces nowhere", b"", 4, "read fault"),
     *[
         (["forces", option, value], b"", 2, f"A6 bad value {value} for {option}")
@@ -277,7 +275,6 @@ WORKED = [
         for option, values in GOOD_VALUES.items()
         for value in values
     ],
-    *[(words, b"", 2, "A0 words of a later stage") for words in LATER],
     ("make --bodies 262145", b"", 2, "A6 bad value 262145 for --bodies"),
     ("make --seed 18446744073709551616", b"", 2, "A6 bad value 18446744073709551616 for --seed"),
     ("make -", b"", 2, "A7 extra word -"),
@@ -494,7 +491,8 @@ top 1 count 2 mass 3 sum 536870912 0 0
 
 
 def worked():
-    """Each worked case: words, standard input, and the three answers."""
+    """Each worked case, and its answer."""
     for words, data, status, told in [*WORKED, *WORKED_SPLITS]:
         out, err = (told, "") if status == 0 else ("", f"hot: {told}\n")
-        yield words.split() if isinstance(words, str) else words, data, (status, out.encode(), err.encode())
+        case = Case("worked", words.split() if isinstance(words, str) else words, data)
+        yield case, (status, out.encode(), err.encode())

@@ -1,4 +1,5 @@
-"""The force of gravity on each body by one recursive walk (docs/MODEL.md), in plain whole numbers."""
+"""The force of gravity on each body, and the cells that it opens, by one recursive walk (docs/MODEL.md), in plain whole
+numbers."""
 
 import math
 
@@ -33,6 +34,7 @@ class Walk:
         self.keyed = [(key_of(b.place), b) for b in bodies]
         self.eps, self.ratio, self.leaf = eps, ratio, leaf
         self.cells = {}
+        self.walked = {}  # of each place: the force there, and the set of opened cells
 
     def inside(self, cell):
         """The bodies of a cell, its mass and its centre."""
@@ -44,28 +46,37 @@ class Walk:
             self.cells[cell] = pairs, mass, centre
         return self.cells[cell]
 
-    def force(self, key, p, cell=1):
-        """The force on the body at `p` from a cell."""
+    def is_leaf(self, cell):
+        return len(self.inside(cell)[0]) <= self.leaf or level_of(cell) == LEVELS
+
+    def force(self, key, p, opened, cell=1):
+        """The force on the body at `p` from a cell; what it opens there goes to `opened`."""
         pairs, mass, centre = self.inside(cell)
         if not pairs:
             return [0, 0, 0]
         if accepts(key, p, cell, centre, self.ratio):
             return pull(p, centre, mass, self.eps)
+        opened.add(cell)
         total = [0, 0, 0]
-        if len(pairs) <= self.leaf or level_of(cell) == LEVELS:
+        if self.is_leaf(cell):
             for _, b in pairs:
                 total = add(total, pull(p, b.place, b.mass, self.eps))
             return total
         for digit in range(8):
-            total = add(total, self.force(key, p, 8 * cell + digit))
+            total = add(total, self.force(key, p, opened, 8 * cell + digit))
         return total
 
+    def results(self):
+        """The force on each body and the cells that it opens, in the order of the list."""
+        for key, b in self.keyed:
+            if b.place not in self.walked:
+                opened = set()
+                self.walked[b.place] = self.force(key, b.place, opened), opened
+        return [self.walked[b.place] for _, b in self.keyed]
 
-def forces_text(bodies, eps, ratio, leaf):
-    walk = Walk(bodies, eps, ratio, leaf)
+
+def forces_text(bodies, results):
     lines = ["# hot forces 1"]
-    for key, b in walk.keyed:
-        ax, ay, az = walk.force(key, b.place)
-        lines.append(f"{b.ident} {ax} {ay} {az}")
+    lines += [f"{b.ident} {ax} {ay} {az}" for b, ((ax, ay, az), _) in zip(bodies, results)]
     lines.append(f"# end {len(bodies)}")
     return "\n".join(lines) + "\n"

@@ -1,7 +1,11 @@
 """What the program answers: its status, its output and its error stream."""
 
-from reference.forces import forces_text
+from functools import cache
+
+from reference.forces import Walk, forces_text
+from reference.generator import made_bodies, made_file
 from reference.header import Refused
+from reference.report import Run, report_text, sample_text
 from reference.rows import bodies
 from reference.split import split_text
 from reference.words import is_of_later, read
@@ -17,14 +21,46 @@ def is_decided(refused, data):
     return code not in ("H3", "B1") and not (code == "H1" and b"# SDF".startswith(data))
 
 
+def results_of(found, options):
+    """The force on each body and the cells that it opens."""
+    return Walk(found, options["--eps"], options["--theta"], options["--leaf"]).results()
+
+
+@cache
+def sampled(count, seed, eps, theta, leaf):
+    """Generated bodies and their results."""
+    found = made_bodies(count, seed)
+    return found, Walk(found, eps, theta, leaf).results()
+
+
+def without_file(command, options):
+    """The answer of a command that reads no file."""
+    count, seed = options["--bodies"], options["--seed"]
+    if command == "make":
+        return 0, made_file(count, seed), b""
+    pair = sampled(count, seed, options["--eps"], options["--theta"], options["--leaf"])
+    return 0, sample_text(*pair, options).encode(), b""
+
+
+def with_bodies(command, options, found):
+    """The answer of a command on the bodies of a file."""
+    if command == "split":
+        return 0, split_text(found, options["--ranks"]).encode(), b""
+    results = results_of(found, options)
+    report = report_text(Run(found, results, options)) if options["--report"] else ""
+    return 0, forces_text(found, results).encode(), report.encode()
+
+
 def prepared(words, stdin, files, broken):
     """The answer where each stream takes all bytes; where `broken`, standard input fails behind its bytes."""
     try:
         command, options, file = read(words)
     except Refused as refused:
         return 2, b"", line(refused)
-    if is_of_later(command, options):
+    if is_of_later(options):
         return 2, b"", line("A0 words of a later stage")
+    if command in ("make", "sample"):
+        return without_file(command, options)
     data = stdin if file == "-" else files.get(file)
     fails = broken and file == "-"
     if data is None:
@@ -35,18 +71,16 @@ def prepared(words, stdin, files, broken):
         return (4, b"", line("read fault")) if fails and not is_decided(refused, data) else (3, b"", line(refused))
     if fails:
         return 4, b"", line("read fault")
-    if command == "split":
-        text = split_text(found, options["--ranks"])
-    else:
-        text = forces_text(found, options["--eps"], options["--theta"], options["--leaf"])
-    return 0, text.encode(), b""
+    return with_bodies(command, options, found)
 
 
 def answer(case):
-    """The answer to a case (see cases/)."""
+    """The answer to a case (see cases/): each stream takes its bytes in their order, until it has no room."""
     status, out, err = prepared(case.words, case.stdin, case.files, case.broken)
-    if case.full == "out" and out:
-        return 5, b"", line("write fault")
-    if case.full == "err" and err:
-        return 5, out, b""
+    out_room, err_room = (case.room.get(stream, len(text)) for stream, text in (("out", out), ("err", err)))
+    if len(out) > out_room:
+        fault = line("write fault")
+        return 5, out[:out_room], fault[: case.room.get("err", len(fault))]
+    if len(err) > err_room:
+        return 5, out, err[:err_room]
     return status, out, err

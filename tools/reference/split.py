@@ -1,6 +1,7 @@
 """The split over ranks, its branch cells and its top cells (docs/MODEL.md), as filters over the cells with bodies."""
 
 from collections import Counter, defaultdict
+from itertools import accumulate
 
 from reference.keys import cells_of, key_of
 
@@ -17,7 +18,8 @@ def ranks_of(keys, weights, ranks):
     at = Counter()
     for key, weight in zip(keys, weights):
         at[key] += weight
-    below = {key: sum(weight for other, weight in at.items() if other < key) for key in at}
+    keys_up = sorted(at)
+    below = dict(zip(keys_up, accumulate((at[key] for key in keys_up), initial=0)))
     return [min(ranks - 1, below[key] * ranks // whole) for key in keys]
 
 
@@ -28,27 +30,45 @@ def record(inside):
     return f"count {len(inside)} mass {mass} sum {sums[0]} {sums[1]} {sums[2]}"
 
 
+class Split:
+    """Bodies split over ranks."""
+
+    def __init__(self, bodies, ranks):
+        keys = [key_of(b.place) for b in bodies]
+        self.weights = weights_of(bodies)
+        self.ranks = ranks
+        self.rank_of = ranks_of(keys, self.weights, ranks)  # of each body
+        together = defaultdict(list)  # the bodies of each key, which are of one rank
+        for key, body in zip(keys, bodies):
+            together[key].append(body)
+        rank_at = dict(zip(keys, self.rank_of))
+        self.inside = defaultdict(list)  # the bodies of each cell that has any
+        self.present = defaultdict(set)  # the ranks of these bodies
+        for key, group in together.items():
+            for cell in cells_of(key):
+                self.inside[cell] += group
+                self.present[cell].add(rank_at[key])
+        self.tops = [cell for cell in sorted(self.inside) if len(self.present[cell]) > 1]
+        self.branches = {  # by ascending key, with the rank of each
+            cell: min(self.present[cell])
+            for cell in sorted(self.inside)
+            if len(self.present[cell]) == 1 and (cell == 1 or len(self.present[cell >> 3]) > 1)
+        }
+
+    def owner(self, cell):
+        """The rank of the branch that a cell with bodies is or lies in; None of a top cell."""
+        return min(self.present[cell]) if len(self.present[cell]) == 1 else None
+
+
 def split_text(bodies, ranks):
-    keys = [key_of(b.place) for b in bodies]
-    weights = weights_of(bodies)
-    owners = ranks_of(keys, weights, ranks)
-    inside = defaultdict(list)  # the bodies of each cell that has any
-    present = defaultdict(set)  # the ranks of these bodies
-    for key, body, rank in zip(keys, bodies, owners):
-        for cell in cells_of(key):
-            inside[cell].append(body)
-            present[cell].add(rank)
-    tops = [cell for cell in sorted(inside) if len(present[cell]) > 1]
-    branches = {
-        cell: min(present[cell])
-        for cell in sorted(inside)
-        if len(present[cell]) == 1 and (cell == 1 or len(present[cell >> 3]) > 1)
-    }
+    split = Split(bodies, ranks)
+    weight = Counter()
+    for rank, one in zip(split.rank_of, split.weights):
+        weight[rank] += one
     lines = ["# hot split 1"]
     for rank in range(ranks):
-        weight = sum(weight for weight, owner in zip(weights, owners) if owner == rank)
-        own = [cell for cell, owner in branches.items() if owner == rank]
-        lines.append(f"rank {rank} bodies {owners.count(rank)} weight {weight} branches {len(own)}")
-    lines += [f"branch {cell} rank {rank} {record(inside[cell])}" for cell, rank in branches.items()]
-    lines += [f"top {cell} {record(inside[cell])}" for cell in tops]
+        own = [cell for cell, owner in split.branches.items() if owner == rank]
+        lines.append(f"rank {rank} bodies {split.rank_of.count(rank)} weight {weight[rank]} branches {len(own)}")
+    lines += [f"branch {cell} rank {rank} {record(split.inside[cell])}" for cell, rank in split.branches.items()]
+    lines += [f"top {cell} {record(split.inside[cell])}" for cell in split.tops]
     return "".join(f"{line}\n" for line in [*lines, "# end split"])

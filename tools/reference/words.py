@@ -86,14 +86,6 @@ def read(words):
     return command, {**DEFAULTS, **options}, file
 
 
-def is_of_later(command, options):
+def is_of_later(options):
     """Whether the words ask for what is not built yet."""
-    if command == "split":
-        return False
-    return (
-        command != "forces"
-        or options["--ranks"] > 1
-        or options["--mail"] != "prompt"
-        or options["--report"]
-        or options["--form"] == "sdf"
-    )
+    return options["--form"] == "sdf"

@@ -1,0 +1,106 @@
+#!/usr/bin/env python3
+"""Proves the libraries below a crate side by side, and keeps what it proves, as `rt lib` in each of them does.
+
+usage: tools/prove.py CRATE
+
+`rt lib` locks all that lies below a crate, so two of them wait for each other; `rt all check` gives each crate one
+processor, and starts first those with few crates below them. This asks the scheduler of `rt ci` instead: the longest chain
+of crates first, as many crates at a time as there are processors and memory for, and what is to spare for one proof.
+RT_JOBS is the number at a time where it is set.
+
+Of each crate that is done it writes a line `== NAME` and what rattle said, nothing where it was built already. It ends at
+the first failure, with status 1. The status is 3 where the kit's `rt` has no such scheduler.
+"""
+
+import functools
+import importlib.machinery
+import importlib.util
+import os
+import shutil
+import sys
+import tempfile
+import threading
+import time
+import traceback
+
+TOP = os.path.dirname(os.path.dirname(os.path.abspath(__file__)))
+WANTED = {"rt": ("in_lanes", "need", "rtlib"), "rtlib": ("Crate", "guarded", "lock", "root_above", "stop_on_links", "stop_on_text", "files_of")}
+NO_SCHEDULER = 3
+printing = threading.Lock()
+
+
+def load_rt():
+    """The command `rt` as a module, or None where it is none, or lacks what is used here."""
+    try:
+        loader = importlib.machinery.SourceFileLoader("rt", os.path.realpath(shutil.which("rt")))
+        made = importlib.util.module_from_spec(importlib.util.spec_from_loader("rt", loader))
+        loader.exec_module(made)
+        has_all = all(hasattr(made, it) for it in WANTED["rt"]) and all(hasattr(made.rtlib, it) for it in WANTED["rtlib"])
+        return made if has_all else None
+    except Exception:  # whatever a stranger's file does
+        return None
+
+
+def end_with(parent):
+    """Ends this process, and with it all that rt started, once the process that started it is gone."""
+    while os.getppid() == parent:
+        time.sleep(1)
+    os._exit(1)
+
+
+def tell(name, said, status=0):
+    """Writes the lines of a crate; a failure ends everything."""
+    with printing:
+        print(f"== {name}\n{said}", end="", flush=True)
+        if status:
+            print(f"== summary\n{name}: failed ({status})", flush=True)
+            os._exit(1)
+
+
+def work(crate, step, _given, jobs):
+    """Does a step of the crate with so many processors, and tells what was said."""
+    try:
+        with tempfile.TemporaryFile("w+", errors="replace") as crate.out:
+            status = step(jobs)
+            crate.out.seek(0)
+            said = crate.out.read()
+        if status or not crate.is_program:
+            tell(crate.name, said, status)
+        return True
+    except BaseException:
+        traceback.print_exc()
+        os._exit(2)
+
+
+def weight(rtlib, crate):
+    """About how long a crate takes, in lines: four of a proof are as one of code."""
+    proofs = sum(rtlib.text_of(it).count("\n") for it in rtlib.files_of(crate.folder) if it.endswith(".antt"))
+    return crate.count(rb"\n") + proofs // 4
+
+
+def main():
+    rt = load_rt()
+    if not rt:
+        return NO_SCHEDULER
+    threading.Thread(target=end_with, args=(os.getppid(),), daemon=True).start()
+    rtlib, folder = rt.rtlib, os.path.join(TOP, "crates", sys.argv[1])
+    # (before other threads run, as rt asks)
+    rtlib.guarded()
+    top = rtlib.Crate(folder, rtlib.root_above(folder), {})
+    crates = [*top.below(), top]
+    _held = rtlib.lock(crates)
+    for crate in crates:
+        rtlib.stop_on_links(crate.folder)
+        rtlib.stop_on_text(crate, "check")
+    build = lambda crate: lambda jobs: crate.build_rlib(["--jobs", str(jobs)], anew=False)
+    # a quick pass over all sources, for what needs no proof to find
+    tasks = {(top.name, "quick"): ([], 10**6, 1_500_000_000, functools.partial(work, top, lambda _: top.front_end()))}
+    for crate in top.below():
+        waits = [(it.name, "proof") for it in crate.below()]
+        tasks[crate.name, "proof"] = (waits, weight(rtlib, crate), rt.need(crate), functools.partial(work, crate, build(crate)))
+    rt.in_lanes(tasks)
+    return 0
+
+
+if __name__ == "__main__":
+    sys.exit(main())
