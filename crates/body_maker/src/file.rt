@@ -58,9 +58,9 @@ fn write_header<O: Sink>(out: &mut O, bodies: u32) -> Result<(), Failed>
     )
 }
 
-/// Writes a body file of so many generated bodies: its header, and a row of three coordinates for each body. The bodies
-/// are made as they are written, so no memory is taken. `Failed` comes exactly where the sink's count of faults rises, and
-/// then a front of the file was written.
+/// Writes a body file of so many generated bodies: its header, and a row of three coordinates for
+/// each body. The bodies are made as they are written, so no memory is taken. `Failed` comes
+/// exactly where the sink's count of faults rises, and then a front of the file was written.
 pub fn write_made<O: Sink>(out: &mut O, bodies: u32, seed: u64) -> Result<(), Failed>
     requires unfailed { O.faults out.old ≡ 0 }
     ensures cause { FailsExactly (O.faults out.old) (O.faults out.new) result }

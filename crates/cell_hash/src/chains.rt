@@ -12,8 +12,8 @@ pub struct Link {
     pub before: u32,
 }
 
-/// Keys in the order in which they came, in buckets by their low bits: of each bucket the place behind its last key, or 0.
-/// Clauses see the list of keys.
+/// Keys in the order in which they came, in buckets by their low bits: of each bucket the place
+/// behind its last key, or 0. Clauses see the list of keys.
 #[derive(Drop)]
 pub struct Chains {
     mask: u64,

@@ -1,4 +1,5 @@
-//! A table by cell keys: the low bits of a key choose its bucket, and a bucket's chain goes by places in one vector.
+//! A table by cell keys: the low bits of a key choose its bucket, and a bucket's chain goes by
+//! places in one vector.
 #![tactic(auto)]
 
 mod chains;

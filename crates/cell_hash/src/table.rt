@@ -16,8 +16,9 @@ pub struct InsertRefused<T> {
     pub value: T,
 }
 
-/// A finite map from keys to values, by chained hashing (Knuth, volume 3): the low bits of a key choose its bucket. Keys
-/// that are equal in those bits make one chain, so a look-up takes time in the number of keys in its bucket.
+/// A finite map from keys to values, by chained hashing (Knuth, volume 3): the low bits of a key
+/// choose its bucket. Keys that are equal in those bits make one chain, so a look-up takes time in
+/// the number of keys in its bucket.
 #[derive(Drop)]
 pub struct CellTable<T> {
     chains: Chains,
@@ -40,7 +41,8 @@ impl<T> Model for CellTable<T> {
     ghost invariant = { λ t. (length t.values.items ≡ length t.chains) × AreApart t.chains };
 }
 
-/// Adds a key and its value behind the others. Where memory runs out nothing is added, and both are handed back.
+/// Adds a key and its value behind the others. Where memory runs out nothing is added, and both are
+/// handed back.
 fn add<T: Drop>(
     chains: &mut Chains,
     values: &mut Vec<T>,
@@ -74,8 +76,8 @@ impl<T: Drop> CellTable<T> {
         })
     }
 
-    /// Sets the value of a key, and answers the one that it had; None exactly where it was absent. To replace a value
-    /// takes no memory. Where memory runs out the table is as it was.
+    /// Sets the value of a key, and answers the one that it had; None exactly where it was absent.
+    /// To replace a value takes no memory. Where memory runs out the table is as it was.
     pub fn insert(&mut self, key: u64, value: T) -> Result<Option<T>, InsertRefused<T>>
         ensures was { IfOk result (λ was. was ≡ map.get self.old key) }
         ensures ok { OnOk result (self.new ≡ map.insert self.old key value) }

@@ -38,7 +38,8 @@ fn the_most_buckets_and_the_greatest_key(rt: HostRuntime) {
 
 #[test]
 fn refused_memory(rt: HostRuntime) {
-    // with each allocation failing in turn a refused key and its value come back, and what was there stays
+    // with each allocation failing in turn a refused key and its value come back, and what was
+    // there stays
     let Ok(mut table) = CellTable::new(rt.alloc(), 4) else {
         return;
     };

@@ -4,8 +4,8 @@ ghost use Rattle.defer_walk.specs.Grouping.{listed_as, all_listed, places_to};
 use smallvec::SmallVec;
 use std::alloc::{AllocError, Global};
 
-/// Bodies, by their places in the piece, that wait for a cell, by its key: each is to be tested, or each is to be added
-/// whole.
+/// Bodies, by their places in the piece, that wait for a cell, by its key: each is to be tested, or
+/// each is to be added whole.
 #[derive(Drop)]
 pub struct Held {
     pub key: u64,

@@ -20,7 +20,8 @@ use std::alloc::{AllocError, Global};
 /// So many bodies at most go down the tree together, so that their places stay few and near.
 const CHUNK: u32 = 4096;
 
-/// The first advance: all bodies go down from the root as far as the rank has the tree, chunk by chunk from the last.
+/// The first advance: all bodies go down from the root as far as the rank has the tree, chunk by
+/// chunk from the last.
 pub fn begin<V: Visit, C: Cells>(
     alloc: Global,
     visit: &V,
@@ -62,8 +63,8 @@ pub fn begin<V: Visit, C: Cells>(
     Ok(())
 }
 
-/// What becomes of bodies whose cell was answered: the bodies of a leaf are added, or `recs` are the children to be
-/// tested.
+/// What becomes of bodies whose cell was answered: the bodies of a leaf are added, or `recs` are
+/// the children to be tested.
 fn wake<V: Visit>(
     visit: &V,
     piece: &[Body],
@@ -144,7 +145,8 @@ pub fn resume<V: Visit, C: Cells>(
     Ok(())
 }
 
-/// An advance: the first one from the root, later ones from the bodies that wait. It answers how many pairs wait then.
+/// An advance: the first one from the root, later ones from the bodies that wait. It answers how
+/// many pairs wait then.
 pub fn go_on<V: Visit, C: Cells>(
     alloc: Global,
     advanced: bool,

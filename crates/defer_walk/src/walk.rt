@@ -48,7 +48,8 @@ impl<V: Visit> Model for Walk<V> {
 }
 
 impl<V: Visit> Walk<V> {
-    /// A walk of a rank's bodies, not started. It stands for every good world in which they are the rank's piece.
+    /// A walk of a rank's bodies, not started. It stands for every good world in which they are the
+    /// rank's piece.
     pub fn new(alloc: Global, me: u32, visit: V, piece: &[Body]) -> Result<Walk<V>, AllocError>
         requires fits { (w : World) × IsGood w × (piece.now ≡ piece_of w me) }
         ensures stands { IfOk result (λ walk. (w : World) → IsGood w → piece.now ≡ piece_of w me → StandsFor V.zero_of V.adds V.opens_by V.Acc.seen_of w walk) }
@@ -72,8 +73,8 @@ impl<V: Visit> Walk<V> {
         })
     }
 
-    /// Lists each body with the root. Where memory runs out the walk is starved and not started. It may be called on
-    /// any starved walk too, which answers want of memory.
+    /// Lists each body with the root. Where memory runs out the walk is starved and not started. It
+    /// may be called on any starved walk too, which answers want of memory.
     pub fn start<C: Cells>(&mut self, cells: &C) -> Result<(), AllocError>
         requires fresh { self.old.starved ≡ false → self.old.started ≡ false }
         requires fits { (w : World) × C.stands cells.now w self.old.me × StandsFor V.zero_of V.adds V.opens_by V.Acc.seen_of w self.old }
@@ -94,8 +95,9 @@ impl<V: Visit> Walk<V> {
         Ok(())
     }
 
-    /// Works until every pair that is left waits for an absent cell, and answers how many do. Where memory runs out the
-    /// walk is starved. It may be called on any starved walk too, which answers want of memory.
+    /// Works until every pair that is left waits for an absent cell, and answers how many do. Where
+    /// memory runs out the walk is starved. It may be called on any starved walk too, which answers
+    /// want of memory.
     pub fn advance<C: Cells>(&mut self, cells: &C) -> Result<Progress, AllocError>
         requires started { self.old.starved ≡ false → self.old.started ≡ true }
         requires fits { (w : World) × C.stands cells.now w self.old.me × StandsFor V.zero_of V.adds V.opens_by V.Acc.seen_of w self.old }
@@ -143,8 +145,8 @@ impl<V: Visit> Walk<V> {
         }
     }
 
-    /// The next cell that became asked and was not yet given by this call; None exactly where there is none. It takes
-    /// no memory.
+    /// The next cell that became asked and was not yet given by this call; None exactly where there
+    /// is none. It takes no memory.
     pub fn asked(&mut self) -> Option<Ask>
         ensures some { IfSome result (λ a. (given_of self.new ≡ given_of self.old ++ a.key ∷ []) × (Contains (given_of self.old) a.key → ⊥)) }
         ensures needed { IfSome result (λ a. (w : World) → StandsFor V.zero_of V.adds V.opens_by V.Acc.seen_of w self.old → IsOwner w a.owner a.key × Needs (V.opens_by self.old.visit) w self.old.me a.key × (IsBranch w a.owner a.key ⊎ IsSome (answer_of self.old (parent a.key)))) }
@@ -163,7 +165,8 @@ impl<V: Visit> Walk<V> {
         }
     }
 
-    /// Stores the owner's answer for a cell that was given by `asked` and not supplied before. It takes no memory.
+    /// Stores the owner's answer for a cell that was given by `asked` and not supplied before. It
+    /// takes no memory.
     pub fn supply(&mut self, item: Answered)
         requires given { Contains (given_of self.old) item.key }
         requires absent { answer_of self.old item.key ≡ None }
@@ -178,7 +181,8 @@ impl<V: Visit> Walk<V> {
         self.asks.fill(key, answer);
     }
 
-    /// Whether the walk was started and no pair is left. A starved walk is never done. It takes no memory.
+    /// Whether the walk was started and no pair is left. A starved walk is never done. It takes no
+    /// memory.
     pub fn done(&self) -> bool
         ensures value { IsTrue result ↔ ((self.now.started ≡ true) × (self.now.starved ≡ false) × (self.now.pairs ≡ [])) }
     {

@@ -1,4 +1,5 @@
-// Bounds of a pull: two whole numbers that it lies between, by a hint of an inverse root that is tested by products.
+// Bounds of a pull: two whole numbers that it lies between, by a hint of an inverse root that is
+// tested by products.
 ghost use Rattle.std.specs.Prelude.{IfSome, ◌≡◌, ◌/◌, ◌≤◌, ◌<◌, ◌^◌, ◌*◌};
 ghost use Rattle.hot_model.specs.Kernel as kernel;
 ghost use Rattle.fixed_kernel.specs.Between.{IsBetween};
@@ -50,7 +51,8 @@ fn room_for_twos(n: u64) -> u32
     63 - (n | 1).ilog2()
 }
 
-/// The bounds of the pull by a mass. None where the hint is not good enough, or the pull too large or too small for them.
+/// The bounds of the pull by a mass. None where the hint is not good enough, or the pull too large
+/// or too small for them.
 #[inline(always)]
 pub fn bound_pull(soft: u64, mass: u64) -> Option<Bounds>
     requires above { 0 < soft }

@@ -1,4 +1,5 @@
-//! What floats suggest for the whole numbers of the kernel. Nothing is promised of a hint: who takes one tests it.
+//! What floats suggest for the whole numbers of the kernel. Nothing is promised of a hint: who
+//! takes one tests it.
 ghost use Rattle.std.specs.Prelude.{◌<◌, ◌≤◌, ◌^◌};
 ghost use Rattle.hot_model.specs.Limits.{max_all_mass};
 
@@ -35,7 +36,8 @@ pub struct PullHints {
     pub z: u64,
 }
 
-/// A number below 2^52, by the bits of its sum with 2^52. No conversion waits for an older value of its register.
+/// A number below 2^52, by the bits of its sum with 2^52. No conversion waits for an older value of
+/// its register.
 #[tactic(auto, using(crate::proofs::Bits::on_bits))]
 #[inline(always)]
 fn float(n: u64) -> f64
@@ -52,7 +54,8 @@ fn wide(n: u64) -> f64 {
     high + f64::from_bits(BITS_OF_TWO_52 + n % TWO_32)
 }
 
-/// A float of at most 2^51 without its fraction, on top of 3 * 2^51, where its last bits are those of the whole number.
+/// A float of at most 2^51 without its fraction, on top of 3 * 2^51, where its last bits are those
+/// of the whole number.
 #[inline(always)]
 fn raised(x: f64) -> f64 {
     (x - 0.5) + FLOAT_RAISE
@@ -77,8 +80,9 @@ pub fn hint_root(high: u64, low: u64) -> u64 {
     ))
 }
 
-/// The hint for 2^94 over the root of a number from 2^62. The factor is a little too small, since a hint that is too large
-/// is not taken. A number of at most 2^51 stands in the last bits of its sum with 2^52.
+/// The hint for 2^94 over the root of a number from 2^62. The factor is a little too small, since a
+/// hint that is too large is not taken. A number of at most 2^51 stands in the last bits of its sum
+/// with 2^52.
 #[inline(always)]
 pub fn hint_inverse_root(n: u64) -> u64 {
     let raised = 106854955625126008193024.0 / ((n >> 11) as f64).sqrt() + FLOAT_TWO_52;
@@ -89,7 +93,8 @@ pub fn hint_inverse_root(n: u64) -> u64 {
     }
 }
 
-/// The hints for the pull of a mass. The factors are a little too large, since a quotient that is whole is not to be missed.
+/// The hints for the pull of a mass. The factors are a little too large, since a quotient that is
+/// whole is not to be missed.
 #[inline(always)]
 pub fn hint_pull(x: u32, y: u32, z: u32, soft: u64, mass: u64) -> PullHints
     requires { mass ≤ max_all_mass }

@@ -1,5 +1,6 @@
-//! The kernel of gravity in whole numbers: roots, centres, the pull of a mass, the opening test, and the visit that adds
-//! pulls up. Nothing here takes memory. Roots, centres and the sizes of pulls are rounded down.
+//! The kernel of gravity in whole numbers: roots, centres, the pull of a mass, the opening test,
+//! and the visit that adds pulls up. Nothing here takes memory. Roots, centres and the sizes of
+//! pulls are rounded down.
 #![tactic(auto)]
 
 mod bounds;

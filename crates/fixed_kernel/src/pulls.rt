@@ -1,5 +1,5 @@
-// The pull of a mass. Where bounds of it have the same quotients, these are it. Elsewhere quotients are guessed and tested,
-// and there is a division where a guess fails.
+// The pull of a mass. Where bounds of it have the same quotients, these are it. Elsewhere quotients
+// are guessed and tested, and there is a division where a guess fails.
 ghost use Rattle.std.specs.Prelude.{IfSome, IsTrue, ◌↔◌, ◌-◌, ◌≡◌, ◌/◌, ◌≤◌, ◌<◌, ◌^◌, ◌*◌};
 ghost use Rattle.hot_model.specs.Limits.{fine_bits, max_all_mass};
 ghost use Rattle.hot_model.specs.Kernel as kernel;
@@ -243,8 +243,9 @@ fn pull_at(p: [u32; 3], c: [u32; 3], mass: u64, soft: u64) -> [i128; 3]
 /// `mass * |c - p| * 2^50 / (r2 * s)`, rounded down in size, with the sign of `c - p`. Here `r2` is the squared distance
 /// plus the square of `eps`, and `s` the root of `r2 * 2^20`, rounded down.
 ///
-/// Places are in fine units, each coordinate below 2^29, the mass is at most 2^40, and the pull is in units of 2^-40 of
-/// mass over squared fine distance. It is 0 for the mass 0 and for the place itself. It takes no memory.
+/// Places are in fine units, each coordinate below 2^29, the mass is at most 2^40, and the pull is
+/// in units of 2^-40 of mass over squared fine distance. It is 0 for the mass 0 and for the place
+/// itself. It takes no memory.
 #[tactic(auto, using(crate::proofs::Hints::on_far))]
 #[inline(always)]
 pub fn pull(p: [u32; 3], c: [u32; 3], mass: u64, eps: Eps) -> [i128; 3]

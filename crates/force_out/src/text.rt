@@ -47,12 +47,14 @@ fn end_line<O: Sink>(out: &mut O, count: usize) -> Result<(), Failed>
     line.write(out)
 }
 
-/// Writes the forces on the bodies as text: the line `# hot forces 1`, then for each body, in the order of the slices,
-/// the line `IDENT AX AY AZ`, and last the line `# end N` with the number of bodies.
+/// Writes the forces on the bodies as text: the line `# hot forces 1`, then for each body, in the
+/// order of the slices, the line `IDENT AX AY AZ`, and last the line `# end N` with the number of
+/// bodies.
 ///
-/// Numbers are decimal, without leading zeros, with `-` where they are negative. A component is in units of 2^-40 of
-/// mass over squared fine distance. `Failed` comes exactly where the sink's count of faults rises, and then a front of
-/// the text was written. No memory is taken, and the sink gets no empty piece.
+/// Numbers are decimal, without leading zeros, with `-` where they are negative. A component is in
+/// units of 2^-40 of mass over squared fine distance. `Failed` comes exactly where the sink's count
+/// of faults rises, and then a front of the text was written. No memory is taken, and the sink gets
+/// no empty piece.
 pub fn force_text<O: Sink>(out: &mut O, idents: &[i128], forces: &[Acc3]) -> Result<(), Failed>
     requires unfailed { O.faults out.old ≡ 0 }
     requires paired { length idents.now ≡ length forces.now }

@@ -22,8 +22,8 @@ use run_report::{RunReport, Sample};
 use std::alloc::{AllocError, Global};
 use std::thread::Threads;
 
-/// What a run gives: the bodies in key order, the forces on them in the order of their rows, and the report, where it is
-/// asked for.
+/// What a run gives: the bodies in key order, the forces on them in the order of their rows, and
+/// the report, where it is asked for.
 #[derive(Drop)]
 struct Ran {
     ordered: Ordered,
@@ -112,7 +112,8 @@ fn compute_run<R: Threads + Sync, M: Wire, G: Gate>(
     })
 }
 
-/// The forces on the bodies of a file, by a run over ranks. They are put into the order of the file.
+/// The forces on the bodies of a file, by a run over ranks. They are put into the order of the
+/// file.
 pub fn compute_forces<R: Threads + Sync, M: Wire, G: Gate>(
     rt: &R,
     alloc: Global,

@@ -8,7 +8,8 @@ use std::fs::File;
 use std::io::BufWriter;
 use std::test::Fail;
 
-// What a source gave: how many bytes each read, the bytes together, and whether the last read failed.
+// What a source gave: how many bytes each read, the bytes together, and whether the last read
+// failed.
 #[derive(Drop)]
 struct Given {
     counts: Vec<usize>,

@@ -5,8 +5,8 @@ pub fn start_holds()
     ensures law { laws.StartHolds }
 {}
 
-/// A joint step: where all outboxes are empty and nothing was posted yet in this round, each rank steps, and all still holds
-/// together.
+/// A joint step: where all outboxes are empty and nothing was posted yet in this round, each rank
+/// steps, and all still holds together.
 pub fn step_keeps()
     ensures law { laws.StepKeeps }
 {}
@@ -16,8 +16,8 @@ pub fn post_keeps()
     ensures law { laws.PostKeeps }
 {}
 
-/// A taking: what the wire gives is true, and its receiver may take it; and then all still holds together. The log is legal
-/// even where the receiver is refused memory.
+/// A taking: what the wire gives is true, and its receiver may take it; and then all still holds
+/// together. The log is legal even where the receiver is refused memory.
 pub fn take_keeps()
     ensures law { laws.TakeKeeps }
 {}
@@ -27,13 +27,14 @@ pub fn turn_keeps()
     ensures law { laws.TurnKeeps }
 {}
 
-/// The end of a round in which a letter was taken: all still holds together, and nothing is posted yet in the next round.
+/// The end of a round in which a letter was taken: all still holds together, and nothing is posted
+/// yet in the next round.
 pub fn round_keeps()
     ensures law { laws.RoundKeeps }
 {}
 
-/// Between any two events a rank has not asked for a cell of another rank; or it did so once, and that ask is in one place,
-/// or the answer is, or the answer was read.
+/// Between any two events a rank has not asked for a cell of another rank; or it did so once, and
+/// that ask is in one place, or the answer is, or the answer was read.
 pub fn one_state()
     ensures law { laws.OneState }
 {}
@@ -43,7 +44,8 @@ pub fn own_fresh()
     ensures law { laws.OwnFresh }
 {}
 
-/// The end: a round after whose posting nothing is pending leaves every rank finished, and the log complete.
+/// The end: a round after whose posting nothing is pending leaves every rank finished, and the log
+/// complete.
 pub fn quiet_ends()
     ensures law { laws.QuietEnds }
 {}
@@ -58,36 +60,39 @@ pub fn taken_once()
     ensures law { laws.TakenOnce }
 {}
 
-/// In a legal and complete log the cells that a rank asks for are exactly those that it needs, each once.
+/// In a legal and complete log the cells that a rank asks for are exactly those that it needs, each
+/// once.
 pub fn asks_exactly()
     ensures law { laws.AsksExactly }
 {}
 
-/// The cells that ranks need of others, each rank for itself, are at most `(R - 1) C`, for `R` ranks and `C` cells that some
-/// body opens or that are branches.
+/// The cells that ranks need of others, each rank for itself, are at most `(R - 1) C`, for `R`
+/// ranks and `C` cells that some body opens or that are branches.
 pub fn few_needs()
     ensures law { laws.FewNeeds }
 {}
 
-/// A legal log has at most `R (R - 1) + 2 N` letters, for `R` ranks that need `N` cells: one for each two ranks, and two for
-/// each needed cell.
+/// A legal log has at most `R (R - 1) + 2 N` letters, for `R` ranks that need `N` cells: one for
+/// each two ranks, and two for each needed cell.
 pub fn few_letters_of()
     ensures law { laws.FewLetters }
 {}
 
-/// A legal log has at most `(R - 1)(R + 2C) + 1` rounds, for `R` ranks and `C` cells that some body opens or that are
-/// branches.
+/// A legal log has at most `(R - 1)(R + 2C) + 1` rounds, for `R` ranks and `C` cells that some body
+/// opens or that are branches.
 pub fn few_rounds_of()
     ensures law { laws.FewRounds }
 {}
 
-/// Between any two events the wire has room for the end of the round, and fewer rounds ended than may end in all.
+/// Between any two events the wire has room for the end of the round, and fewer rounds ended than
+/// may end in all.
 pub fn rounds_left()
     ensures law { laws.RoundsLeft }
 {}
 
-/// Where each round took all letters that were posted before it ended, a joint step leaves the letters of the next round:
-/// branches in the first, an ask for a cell of level `l` by round `2l`, and its answer one round later.
+/// Where each round took all letters that were posted before it ended, a joint step leaves the
+/// letters of the next round: branches in the first, an ask for a cell of level `l` by round `2l`,
+/// and its answer one round later.
 pub fn step_deepens()
     ensures law { laws.StepDeepens }
 {}
@@ -97,7 +102,8 @@ pub fn post_deep()
     ensures law { laws.PostDeep }
 {}
 
-/// A taking leaves in the boxes letters of the same round, and comes before the last round that there may be.
+/// A taking leaves in the boxes letters of the same round, and comes before the last round that
+/// there may be.
 pub fn take_deep()
     ensures law { laws.TakeDeep }
 {}

@@ -1,5 +1,5 @@
-//! One rank of a run: its tree, its letters and its walk, step by step (the parallel hashed oct-tree of Warren and Salmon,
-//! 1993).
+//! One rank of a run: its tree, its letters and its walk, step by step (the parallel hashed
+//! oct-tree of Warren and Salmon, 1993).
 #![tactic(auto)]
 
 mod heard;

@@ -1,4 +1,5 @@
-//! The letters that a rank puts into its outbox: at most one of a kind to each other rank, by ascending receiver.
+//! The letters that a rank puts into its outbox: at most one of a kind to each other rank, by
+//! ascending receiver.
 ghost use Rattle.std.specs.Prelude.{◌≡◌, ◌≢◌, ◌<◌, ◌≤◌, ◌++◌, ℕ, length, map, All, IfOk, OnOk, OnErr};
 ghost use Rattle.hot_model.specs.Limits.{max_ranks};
 ghost use Rattle.cell_mail.specs.declared.content.Content.TheVariants as content;

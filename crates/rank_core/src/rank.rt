@@ -59,10 +59,11 @@ fn work<V: Visit>(state: &mut State, walk: &mut Walk<V>) -> Result<(), AllocErro
 }
 
 impl<V: Visit> Rank<V> {
-    /// Rank `me` of so many, from 1 to 64, counted from 0: with its piece by ascending key and row, the greatest key of a
-    /// lower rank and the least key of a higher one, and the leaf limit, 1 to 64 bodies. It has done nothing yet, and
-    /// stands for every good world in which all this is so; at least one there must be. It copies the piece; the tree of
-    /// the piece is built in the first step. A refusal is want of memory.
+    /// Rank `me` of so many, from 1 to 64, counted from 0: with its piece by ascending key and row,
+    /// the greatest key of a lower rank and the least key of a higher one, and the leaf limit, 1 to
+    /// 64 bodies. It has done nothing yet, and stands for every good world in which all this is so;
+    /// at least one there must be. It copies the piece; the tree of the piece is built in the first
+    /// step. A refusal is want of memory.
     pub fn new(
         alloc: Global,
         me: u32,
@@ -126,7 +127,8 @@ impl<V: Visit> Rank<V> {
         done
     }
 
-    /// Takes the oldest letter out of the outbox; None exactly where it is empty. It takes no memory.
+    /// Takes the oldest letter out of the outbox; None exactly where it is empty. It takes no
+    /// memory.
     pub fn outbox(&mut self) -> Option<Letter>
         ensures popped { Popped (StandsIn V.Visit V.Acc.Seen) self.old result self.new }
         ensures truth { IfSome result (IsItsLetter V.Visit V.Acc.Seen self.old) }
@@ -134,10 +136,11 @@ impl<V: Visit> Rank<V> {
         self.state.outbox.pop_front()
     }
 
-    /// Puts a letter into the inbox, behind those that are there. It is to this rank and true: the first branches of its
-    /// sender; or it asks for cells for which no letter of that sender in the inbox asks; or it answers for cells that
-    /// this rank asked for and that were not answered before. Where memory is refused the letter is dropped and the rank
-    /// is starved, and all else stays.
+    /// Puts a letter into the inbox, behind those that are there. It is to this rank and true: the
+    /// first branches of its sender; or it asks for cells for which no letter of that sender in the
+    /// inbox asks; or it answers for cells that this rank asked for and that were not answered
+    /// before. Where memory is refused the letter is dropped and the rank is starved, and all else
+    /// stays.
     pub fn take(&mut self, letter: Letter) -> Result<(), AllocError>
         requires fits { FitsALetter V.Visit V.Acc.Seen self.old letter }
         requires mine { letter.to ≡ (seat_of self.old).me }
@@ -159,8 +162,8 @@ impl<V: Visit> Rank<V> {
         Ok(())
     }
 
-    /// Whether the rank is finished: the branches of all ranks were read, the walk is done, and inbox and outbox are
-    /// empty. It takes no memory.
+    /// Whether the rank is finished: the branches of all ranks were read, the walk is done, and
+    /// inbox and outbox are empty. It takes no memory.
     pub fn finished(&self) -> bool
         ensures value { IsTrue result ↔ IsFinished self.now }
     {
@@ -170,9 +173,9 @@ impl<V: Visit> Rank<V> {
             && self.state.outbox.is_empty()
     }
 
-    /// What a rank that is finished found: the accumulators of its bodies, in the order of the piece; how many cells they
-    /// opened, body by body; how many cells of other ranks were asked for, each once; and the keys of the opened cells,
-    /// ascending. A refusal is want of memory.
+    /// What a rank that is finished found: the accumulators of its bodies, in the order of the
+    /// piece; how many cells they opened, body by body; how many cells of other ranks were asked
+    /// for, each once; and the keys of the opened cells, ascending. A refusal is want of memory.
     pub fn into_results(self) -> Result<WalkResult<V::Acc>, AllocError>
         requires finished { IsFinished self }
         ensures folds { IfOk result (λ r. AreFolds V.Visit V.Acc.Seen self r.accs.items) }

@@ -17,7 +17,8 @@ use morton_key::child;
 /// The key of the root.
 const ROOT: u64 = 1;
 
-/// What a rank has of the tree over all bodies: the tree of its own piece, and the top that all ranks share.
+/// What a rank has of the tree over all bodies: the tree of its own piece, and the top that all
+/// ranks share.
 #[derive(Clone, Copy)]
 pub(crate) struct RankCells<'a> {
     pub tree: &'a LocalTree,
@@ -27,7 +28,8 @@ pub(crate) struct RankCells<'a> {
 }
 
 impl<'a> RankCells<'a> {
-    /// The record over all bodies of a cell that is a branch or a top cell, or has no bodies. Two binary searches.
+    /// The record over all bodies of a cell that is a branch or a top cell, or has no bodies. Two
+    /// binary searches.
     fn shared(&self, key: u64) -> Option<CellRec>
         requires cell { IsCell key }
         ensures value { (w : World) (q : ℕ)

@@ -79,7 +79,8 @@ fn read_letter<V: Visit>(
     }
 }
 
-/// Reads the whole inbox: branch lists are heard, answers go to the walk, and the requests of other ranks are given back.
+/// Reads the whole inbox: branch lists are heard, answers go to the walk, and the requests of other
+/// ranks are given back.
 pub(crate) fn read<V: Visit>(
     state: &mut State,
     walk: &mut Walk<V>,

@@ -19,8 +19,8 @@ use local_tree::LocalTree;
 use std::alloc::{AllocError, Global};
 use std::collections::VecDeque;
 
-/// What a rank holds beside its walk: its place and piece, the tree of its piece, the branch lists that it heard, the top
-/// once all of them were heard, and its letters.
+/// What a rank holds beside its walk: its place and piece, the tree of its piece, the branch lists
+/// that it heard, the top once all of them were heard, and its letters.
 #[derive(Drop)]
 pub(crate) struct State {
     pub alloc: Global,
@@ -35,8 +35,8 @@ pub(crate) struct State {
 }
 
 impl State {
-    /// Builds the tree of the piece and tells the branches to all other ranks, unless that was done. A refusal is want
-    /// of memory.
+    /// Builds the tree of the piece and tells the branches to all other ranks, unless that was
+    /// done. A refusal is want of memory.
     pub fn begin(&mut self) -> Result<(), AllocError>
         requires fits { (w : World) × IsPartOf w self.old }
         ensures part { WherePart self.old (λ w. IsPartOf w self.new) }
@@ -96,7 +96,8 @@ impl State {
         put_asks(self.alloc, &self.place, &requests, &mut self.outbox)
     }
 
-    /// What the rank has of the tree over all bodies; None where the tree of its piece or the top is not there.
+    /// What the rank has of the tree over all bodies; None where the tree of its piece or the top
+    /// is not there.
     pub fn cells(&self) -> Option<RankCells<'_>>
         ensures there { IsSome self.now.tree → is_there self.now.top ≡ true → IsSome result }
         ensures stands { (w : World) → IsPartOf w self.now → IfSome result
@@ -113,7 +114,8 @@ impl State {
         }
     }
 
-    /// Merges the branch lists of all ranks into the top, unless that was done; whether it was done now.
+    /// Merges the branch lists of all ranks into the top, unless that was done; whether it was done
+    /// now.
     pub fn merge(&mut self) -> Result<bool, AllocError>
         requires fits { (w : World) × IsPartOf w self.old }
         requires all { AreAllHeard self.old }

@@ -45,7 +45,8 @@ fn walk_all<V: Visit>(
     Ok(())
 }
 
-/// Starts the walk once the branch lists of all ranks were heard, and walks until all that is left waits.
+/// Starts the walk once the branch lists of all ranks were heard, and walks until all that is left
+/// waits.
 pub(crate) fn walk_on<V: Visit>(state: &mut State, walk: &mut Walk<V>) -> Result<(), AllocError>
     requires fits { HoldsSomewhere V.Visit V.Acc.Seen state.old walk.old }
     requires runs { Runs state.old walk.old }

@@ -1,4 +1,5 @@
-//! One walk of all bodies of a set, shared out over ranks that send each other letters (Warren and Salmon, 1993).
+//! One walk of all bodies of a set, shared out over ranks that send each other letters (Warren and
+//! Salmon, 1993).
 #![tactic(auto)]
 
 mod gather;

@@ -17,11 +17,11 @@ fn rows_of(alloc: Global, bodies: &[Body]) -> Result<Vec<u32>, AllocError>
     Ok(rows)
 }
 
-/// The results of bodies, each at the row of its body. They are moved about within their list, cycle by cycle of the
-/// permutation, so that beside it a list of the rows alone is made.
+/// The results of bodies, each at the row of its body. They are moved about within their list,
+/// cycle by cycle of the permutation, so that beside it a list of the rows alone is made.
 ///
-/// The rows are those of a list of as many bodies: they differ, and each is below their number. The error is want of
-/// memory.
+/// The rows are those of a list of as many bodies: they differ, and each is below their number. The
+/// error is want of memory.
 pub fn place_by_row<A: Drop>(
     alloc: Global,
     bodies: &[Body],

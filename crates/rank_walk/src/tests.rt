@@ -83,8 +83,8 @@ fn draw_at(draws: &mut Draws, base: u32, spread: u32) -> i128 {
     i128::from(base.wrapping_add(offset) % 2_097_152)
 }
 
-/// A row: at one of eight places on the diagonal, near it or anywhere behind it, so often at the place of another; heavy,
-/// and with a weight that is often 0.
+/// A row: at one of eight places on the diagonal, near it or anywhere behind it, so often at the
+/// place of another; heavy, and with a weight that is often 0.
 fn draw_row(draws: &mut Draws, spread: u32) -> RawRow {
     let base = 262_144 * (draws.next() % 8);
     RawRow {

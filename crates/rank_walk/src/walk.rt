@@ -15,15 +15,17 @@ use runs::run;
 use std::alloc::{AllocError, Global};
 use std::thread::Threads;
 
-/// Walks all bodies of a set through one tree, shared out over ranks that step on threads and send each other letters
-/// (Warren and Salmon, 1993): the set is split by its work weights, each rank builds the tree of its piece, tells its
-/// branches, and asks for what it opens of the trees of others.
+/// Walks all bodies of a set through one tree, shared out over ranks that step on threads and send
+/// each other letters (Warren and Salmon, 1993): the set is split by its work weights, each rank
+/// builds the tree of its piece, tells its branches, and asks for what it opens of the trees of
+/// others.
 ///
-/// Whatever the bodies, their weights, the number of ranks, the leaf limit, the visit, the wire and the mail, the
-/// accumulator of each body is that of the recursive walk of one tree over all bodies. The wire is begun with the mail,
-/// just before the run. Where the run came to its end nothing is pending and the log is complete: each rank asked for
-/// exactly the cells that it needs, each once, within the bounds on letters and rounds. The error is want of memory; then
-/// the wire is as it was, or its log is legal so far.
+/// Whatever the bodies, their weights, the number of ranks, the leaf limit, the visit, the wire and
+/// the mail, the accumulator of each body is that of the recursive walk of one tree over all
+/// bodies. The wire is begun with the mail, just before the run. Where the run came to its end
+/// nothing is pending and the log is complete: each rank asked for exactly the cells that it needs,
+/// each once, within the bounds on letters and rounds. The error is want of memory; then the wire
+/// is as it was, or its log is legal so far.
 pub fn walk_over_ranks<R: Threads + Sync, V: Visit + Copy, M: Wire, G: Gate>(
     rt: &R,
     alloc: Global,

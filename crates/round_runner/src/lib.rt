@@ -1,7 +1,8 @@
-//! What carries letters between ranks, with a log of what happened, and what ranks enter before they step.
+//! What carries letters between ranks, with a log of what happened, and what ranks enter before
+//! they step.
 //!
-//! After the schedules of a model of message passing: which letter comes next, and how many come in a round, is the
-//! wire's choice, and whoever uses a wire meets its contract under every choice.
+//! After the schedules of a model of message passing: which letter comes next, and how many come in
+//! a round, is the wire's choice, and whoever uses a wire meets its contract under every choice.
 #![tactic(auto)]
 
 mod draw;

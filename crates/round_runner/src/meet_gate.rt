@@ -10,8 +10,9 @@ const MEETING: u64 = 2;
 
 /// A gate that shows whether two ranks step at one time.
 ///
-/// It counts who enters. The first who does is held until a second one is in, but for no more than `limit` looks at the
-/// count; whoever enters after it is not held. The number of a rank means nothing to it.
+/// It counts who enters. The first who does is held until a second one is in, but for no more than
+/// `limit` looks at the count; whoever enters after it is not held. The number of a rank means
+/// nothing to it.
 #[derive(Drop)]
 pub struct MeetGate {
     limit: u64,

@@ -29,7 +29,8 @@ pub(crate) struct Waiting {
 /// - `Single`: the oldest letter, and never more;
 /// - `Seeded`: one draw each, from a generator that begins at the seed.
 ///
-/// So it is eager under `Prompt` and `Last` alone. A new wire is free and empty, with the mail `Prompt`.
+/// So it is eager under `Prompt` and `Last` alone. A new wire is free and empty, with the mail
+/// `Prompt`.
 #[derive(Drop)]
 pub struct MemWire {
     waiting: VecDeque<Waiting>,

@@ -91,8 +91,9 @@ fn orders_are(rt: &impl Abort, alloc: Global, mail: Mail, want: &[u32]) -> Resul
     Ok(())
 }
 
-/// Five letters from the ranks 0 to 4. The first states of the generator from seed 0 give 164015 (at place 0 of 5),
-/// true, 1269455 (3 of 4), true, 804521 (2 of 3), false, 165906 (0 of 2), true and 1012491 (0 of 1).
+/// Five letters from the ranks 0 to 4. The first states of the generator from seed 0 give 164015
+/// (at place 0 of 5), true, 1269455 (3 of 4), true, 804521 (2 of 3), false, 165906 (0 of 2), true
+/// and 1012491 (0 of 1).
 #[test]
 fn each_mail_gives_its_order(rt: HostRuntime) -> Result<(), Fail> {
     let alloc = rt.alloc();

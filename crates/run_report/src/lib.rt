@@ -1,4 +1,5 @@
-//! What a run over ranks shows: what each rank did, the branches, and the letters and rounds, as text.
+//! What a run over ranks shows: what each rank did, the branches, and the letters and rounds, as
+//! text.
 #![tactic(auto)]
 
 mod cells;

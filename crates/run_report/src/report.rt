@@ -15,8 +15,9 @@ use split_table::branches_of_ranks;
 use std::alloc::{AllocError, Global};
 use std::marker::Model;
 
-/// What a run over ranks shows: what each rank did; the branches by ascending key, each with its rank; how many letters
-/// and rounds there were; how many cells are in play, opened or branches; and the bound on rounds.
+/// What a run over ranks shows: what each rank did; the branches by ascending key, each with its
+/// rank; how many letters and rounds there were; how many cells are in play, opened or branches;
+/// and the bound on rounds.
 #[derive(Drop)]
 pub struct RunReport {
     efforts: Vec<Effort>,
@@ -57,9 +58,9 @@ fn bound_of(ranks: u32, cells: u64) -> u128
 }
 
 impl RunReport {
-    /// What a run on a set shows, by what its ranks found and how many letters were posted. What was opened and asked for, the
-    /// cells in play and the bound are those of the definitions, letters and rounds those of the log. A refusal is want of
-    /// memory.
+    /// What a run on a set shows, by what its ranks found and how many letters were posted. What
+    /// was opened and asked for, the cells in play and the bound are those of the definitions,
+    /// letters and rounds those of the log. A refusal is want of memory.
     pub fn of<A>(
         alloc: Global,
         set: &Ordered,

@@ -14,7 +14,8 @@ pub struct ForceSum {
     pub z: i128,
 }
 
-/// What is shown of a run on generated bodies: their number and seed, what the run shows, and the sum of the forces.
+/// What is shown of a run on generated bodies: their number and seed, what the run shows, and the
+/// sum of the forces.
 #[derive(Drop)]
 pub struct Sample {
     pub bodies: u32,

@@ -1,5 +1,5 @@
-// The report of two bodies on two ranks, worked by hand: the root is a leaf that both ranks share, so each body opens it
-// and needs the branch of the other rank.
+// The report of two bodies on two ranks, worked by hand: the root is a leaf that both ranks share,
+// so each body opens it and needs the branch of the other rank.
 use crate::{RunReport, Sample, report_text, sample_text};
 use body_set::{BodySet, Ordered};
 use fixed_kernel::{Eps, ForceVisit, Ratio};

@@ -136,7 +136,8 @@ fn deliver_one<V: Visit, M: Wire>(ranks: &mut [Rank<V>], wire: &mut M) -> Result
     }
 }
 
-// Takes one letter, and further ones while the wire allows it. The answer has a bit for each rank that got letters.
+// Takes one letter, and further ones while the wire allows it. The answer has a bit for each rank
+// that got letters.
 fn deliver<V: Visit, M: Wire>(ranks: &mut [Rank<V>], wire: &mut M) -> Result<u64, AllocError>
     requires running { RunSomewhere V.Visit V.Acc.Seen ranks.old (M.desk wire.old) 1 }
     requires free { (M.desk wire.old).turn ≡ turns.Free }
@@ -156,9 +157,10 @@ fn deliver<V: Visit, M: Wire>(ranks: &mut [Rank<V>], wire: &mut M) -> Result<u64
     Ok(receivers)
 }
 
-// One round, in which so many ranks have something to do: in the first one all, and later those that got letters in the
-// round before. So many threads it takes, and none where one rank alone has; then the number is that for the next round.
-// The answer says whether the round was the last one.
+// One round, in which so many ranks have something to do: in the first one all, and later those
+// that got letters in the round before. So many threads it takes, and none where one rank alone
+// has; then the number is that for the next round. The answer says whether the round was the last
+// one.
 fn one_round<R: Threads + Sync, V: Visit, M: Wire, G: Gate>(
     rt: &R,
     ranks: &mut [Rank<V>],
@@ -193,24 +195,28 @@ fn one_round<R: Threads + Sync, V: Visit, M: Wire, G: Gate>(
     Ok(false)
 }
 
-/// Runs the rounds of all ranks until each rank is finished, and answers how many rounds there were.
+/// Runs the rounds of all ranks until each rank is finished, and answers how many rounds there
+/// were.
 ///
-/// The ranks are 1 to 64 new ones, with rank `q` at place `q`. They have one visit, and there is a good world for which
-/// all of them stand. The wire was begun, and nothing was posted on it.
+/// The ranks are 1 to 64 new ones, with rank `q` at place `q`. They have one visit, and there is a
+/// good world for which all of them stand. The wire was begun, and nothing was posted on it.
 ///
-/// In a round all ranks enter the gate and step, on threads where two or more have something to do. Then their letters are
-/// posted, by ascending rank, and as many as the wire gives are handed to their receivers, which read them in the next
-/// round. After the last round each rank is finished, and nothing is pending.
+/// In a round all ranks enter the gate and step, on threads where two or more have something to do.
+/// Then their letters are posted, by ascending rank, and as many as the wire gives are handed to
+/// their receivers, which read them in the next round. After the last round each rank is finished,
+/// and nothing is pending.
 ///
 /// For each such visit and world the log is legal whenever the call ends; and at Ok it is complete, and the ranks still
 /// stand for the world. With `R` ranks and `C` cells that some body opens or that are branches, there are at most
 /// `(R - 1)(R + 2C) + 1` rounds; and at most 44 where each round takes all letters that were posted before, as under a mail
 /// for which the wire is eager. The wire keeps its mail.
 ///
-/// The error is want of memory alone, of a rank or of the wire. The list of ranks keeps its length, and letters may be pending.
+/// The error is want of memory alone, of a rank or of the wire. The list of ranks keeps its length,
+/// and letters may be pending.
 ///
-/// After Warren and Salmon, "A Parallel Hashed Oct-Tree N-Body Algorithm" (1993): branches are exchanged first, and cells
-/// that are not at hand are asked of their owners in batches, while other work goes on.
+/// After Warren and Salmon, "A Parallel Hashed Oct-Tree N-Body Algorithm" (1993): branches are
+/// exchanged first, and cells that are not at hand are asked of their owners in batches, while
+/// other work goes on.
 pub fn run<R: Threads + Sync, V: Visit, M: Wire, G: Gate>(
     rt: &R,
     _alloc: Global,

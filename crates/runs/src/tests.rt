@@ -85,7 +85,8 @@ fn whole<R: Threads + Sync + Abort, V: Visit, G: Gate>(
     (one, two)
 }
 
-/// The rounds under a seed come from the draws, by hand: 6 letters are taken in 4 rounds, and the fifth is the last one.
+/// The rounds under a seed come from the draws, by hand: 6 letters are taken in 4 rounds, and the
+/// fifth is the last one.
 #[test]
 fn two_ranks_pull_each_other(rt: HostRuntime) {
     let alloc = rt.alloc();
@@ -157,7 +158,8 @@ fn empty<V: Visit>(rt: &impl Abort, alloc: Global, q: u32, visit: V) -> Rank<V>
     Rank::new(alloc, q, 3, &[], Some(POINT), None, 8, visit).expect(rt, "memory")
 }
 
-/// The branch is the root, and no rank asks for anything: each tells its branches to the two others, and then all end.
+/// The branch is the root, and no rank asks for anything: each tells its branches to the two
+/// others, and then all end.
 #[test]
 fn three_ranks_with_five_bodies_at_one_point(rt: HostRuntime) {
     let alloc = rt.alloc();

@@ -38,9 +38,9 @@ pub fn all_branches(alloc: Global, lists: &[RecList]) -> Result<Vec<Listed>, All
     Ok(in_key_order(listed))
 }
 
-/// The branches of a set that is split over 1 to 64 ranks by its work weights (Warren and Salmon, 1993), by ascending key,
-/// each with its rank and its record over all bodies: those of a [`SplitTable`](crate::SplitTable), without the top
-/// cells. A refusal is want of memory.
+/// The branches of a set that is split over 1 to 64 ranks by its work weights (Warren and Salmon,
+/// 1993), by ascending key, each with its rank and its record over all bodies: those of a
+/// [`SplitTable`](crate::SplitTable), without the top cells. A refusal is want of memory.
 pub fn branches_of_ranks(
     alloc: Global,
     set: &Ordered,

@@ -1,5 +1,5 @@
-//! What a split over ranks shows: the share of each rank, the branches, and the top cells that all ranks share, and
-//! their text.
+//! What a split over ranks shows: the share of each rank, the branches, and the top cells that all
+//! ranks share, and their text.
 #![tactic(auto)]
 
 mod branches;

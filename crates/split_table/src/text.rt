@@ -98,12 +98,14 @@ fn top_lines<O: Sink>(out: &mut O, tops: &[CellRec]) -> Result<(), Failed>
     Ok(())
 }
 
-/// Writes a split as text: the line `# hot split 1`; for each rank the line `rank Q bodies N weight W branches B`; for each
-/// branch, by ascending key, the line `branch KEY rank Q count N mass M sum SX SY SZ`; for each top cell, by ascending key,
-/// the line `top KEY count N mass M sum SX SY SZ`; and the line `# end split`. Sums are of mass times fine coordinate.
+/// Writes a split as text: the line `# hot split 1`; for each rank the line `rank Q bodies N weight
+/// W branches B`; for each branch, by ascending key, the line `branch KEY rank Q count N mass M sum
+/// SX SY SZ`; for each top cell, by ascending key, the line `top KEY count N mass M sum SX SY SZ`;
+/// and the line `# end split`. Sums are of mass times fine coordinate.
 ///
-/// Numbers are decimal, without leading zeros. `Failed` comes exactly where the sink's count of faults rises, and then a
-/// front of the text was written. No memory is taken, and the sink gets no empty piece.
+/// Numbers are decimal, without leading zeros. `Failed` comes exactly where the sink's count of
+/// faults rises, and then a front of the text was written. No memory is taken, and the sink gets no
+/// empty piece.
 pub fn split_text<O: Sink>(out: &mut O, table: &SplitTable) -> Result<(), Failed>
     requires unfailed { O.faults out.old ≡ 0 }
     ensures cause { FailsExactly (O.faults out.old) (O.faults out.new) result }

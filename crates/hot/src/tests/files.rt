@@ -103,7 +103,8 @@ fn most_significant_byte_first(rt: HostRuntime) -> Result<(), Fail> {
     Ok(())
 }
 
-/// The header that a converter wrote: comments, texts, a double, an array, and a form feed behind the last `#`.
+/// The header that a converter wrote: comments, texts, a double, an array, and a form feed behind
+/// the last `#`.
 const CONVERTED: &[u8] =
     b"# SDF 1.0\nparameter byteorder = 0x78563412;\n/* a small box, written by a converter */\nchar units[16] = \"fixed point\";\nint64_t npart = 2;\ndouble redshift = 0.5;\nint cube_bits = 21;\nint64_t cube_x0 = -1048576;\nint64_t cube_y0 = -1048576;\nint64_t cube_z0 = -1048576;\nint32_t mass = 2;\nstruct {\n\tint32_t x, y, z;\t/* position */\n\tfloat vx, vy, vz;\n\tint64_t ident;\n\tfloat phi[2];\n}[2];\n#\x0c\n# SDF-EOH\n";
 

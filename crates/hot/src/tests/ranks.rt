@@ -112,8 +112,8 @@ fn add_idle_ranks(alloc: Global, text: &mut Vec<u8>, from: u32, to: u32) -> Resu
     Ok(())
 }
 
-/// What is told of the three bodies on 64 ranks. Each is alone on its rank, opens the root, which is a leaf, and asks for
-/// the branches of the two others.
+/// What is told of the three bodies on 64 ranks. Each is alone on its rank, opens the root, which
+/// is a leaf, and asks for the branches of the two others.
 fn row_report(alloc: Global) -> Result<Vec<u8>, AllocError> {
     let mut text = Vec::from_slice(alloc, b"# hot report 1\nrank 0 bodies 1 opened 1 asks 2\n")?;
     add_idle_ranks(alloc, &mut text, 1, 21)?;

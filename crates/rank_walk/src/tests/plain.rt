@@ -11,7 +11,8 @@ use morton_key::is_cell;
 use std::alloc::Global;
 use std::process::Abort;
 
-/// A cell with bodies: its record, whether it is a leaf, and the rank of its bodies where they have but one.
+/// A cell with bodies: its record, whether it is a leaf, and the rank of its bodies where they have
+/// but one.
 #[derive(Clone, Copy)]
 struct Cell {
     rec: CellRec,
@@ -72,7 +73,8 @@ fn weight_of(set: &Ordered, b: &Body) -> u64 {
     u64::from(weight.unwrap_or(0))
 }
 
-/// The rank of a body by the split rule: the weight below its key, times the ranks, over all weight.
+/// The rank of a body by the split rule: the weight below its key, times the ranks, over all
+/// weight.
 fn rank_of(set: &Ordered, ranks: u32, body: &Body) -> usize {
     let mut below: u64 = 0;
     let mut all: u64 = 0;
@@ -248,8 +250,8 @@ impl Plain {
         false
     }
 
-    /// Whether a rank needs the cell: it is of another rank, and some body of the rank opens it, or it is a branch in a
-    /// leaf that such a body opens.
+    /// Whether a rank needs the cell: it is of another rank, and some body of the rank opens it, or
+    /// it is a branch in a leaf that such a body opens.
     fn is_needed(&self, rt: &impl Abort, cell: &Cell, rank: usize) -> bool {
         if cell.owner.is_none() || cell.owner == Some(rank) {
             return false;
@@ -277,7 +279,8 @@ impl Plain {
         sum
     }
 
-    /// How many rounds there are at most: the cells that count are those that are opened or branches.
+    /// How many rounds there are at most: the cells that count are those that are opened or
+    /// branches.
     pub fn bound(&self, ranks: u32) -> u64 {
         let mut met: u64 = 0;
         for cell in &self.cells {
