@@ -22,8 +22,8 @@ pub enum BodyFault {
     WorkRange { row: u32 },
 }
 
-/// Why a file is refused, in the order of the tests: for its header, for a row, or for how its rows end, within a row or
-/// with bytes too many.
+/// Why a file is refused, in the order of the tests: for its header, for a row, or for how its rows
+/// end, within a row or with bytes too many.
 #[derive(Clone, Copy, Debug, PartialEq, Eq)]
 pub enum FileFault {
     Header(HeaderFault),

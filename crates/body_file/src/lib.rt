@@ -1,5 +1,5 @@
-//! The bodies of a body file, read from a source in pieces of at most 4,096 bytes: header, rows and checks in one pass, in
-//! which each fault is answered as soon as the bytes decide it.
+//! The bodies of a body file, read from a source in pieces of at most 4,096 bytes: header, rows and
+//! checks in one pass, in which each fault is answered as soon as the bytes decide it.
 #![tactic(auto)]
 
 mod fault;

@@ -12,7 +12,8 @@ use sdf_header::{Fed, HeaderReader};
 use sdf_rows::Rows;
 use std::alloc::{AllocError, Global};
 
-/// A reader of a body file: first of its header, then of its rows, with the bodies that they gave so far.
+/// A reader of a body file: first of its header, then of its rows, with the bodies that they gave
+/// so far.
 #[derive(Drop)]
 pub enum BodyReader {
     Header(HeaderReader),

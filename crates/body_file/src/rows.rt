@@ -17,8 +17,8 @@ fn push_row(set: &mut BodySet, raw: &RawRow) -> Result<(), ReadError>
     }
 }
 
-/// Takes a piece of the bytes behind the header up to the end of the current row, adds that row to the set where it ends
-/// in the piece, and says how many bytes it took.
+/// Takes a piece of the bytes behind the header up to the end of the current row, adds that row to
+/// the set where it ends in the piece, and says how many bytes it took.
 fn take_row(rows: &mut Rows, set: &mut BodySet, piece: &[u8]) -> Result<usize, ReadError>
     requires some { 1 ≤ length piece.now }
     requires fed { (l : LayoutValue) × (bytes : List ℕ) × IsAt l rows.old set.old bytes }

@@ -60,7 +60,8 @@ fn header_of(alloc: Global, statements: &[u8]) -> Result<Vec<u8>, AllocError> {
     Ok(bytes)
 }
 
-/// The answer to the file of this name, where the file `bodies` has these bytes and a file `others` has three zeros.
+/// The answer to the file of this name, where the file `bodies` has these bytes and a file `others`
+/// has three zeros.
 fn read(
     alloc: Global,
     name: &str,
@@ -139,7 +140,8 @@ fn verdicts(rt: HostRuntime) -> Result<(), Fail> {
     let heavy_at = |row| body(BodyFault::MassRange { row });
     let late_at = |row| body(BodyFault::WorkRange { row });
     let not_whole = header(HeaderFault::NotWhole(ColName::X));
-    // the statements, what follows the header, how many bytes of that are given before a read fails, the answer
+    // the statements, what follows the header, how many bytes of that are given before a read
+    // fails, the answer
     for (statements, rows, stop, wanted) in [
         (float, b"".as_slice(), None, not_whole),
         (float, b"", Some(0), not_whole),
@@ -245,7 +247,8 @@ fn headers_without_an_end(rt: HostRuntime) -> Result<(), Fail> {
     let no_magic = header(HeaderFault::NoMagic);
     let no_end = header(HeaderFault::NoEnd);
     let too_long = header(HeaderFault::TooLong);
-    // the first bytes, how many blanks follow, how many bytes are given before a read fails, the answer
+    // the first bytes, how many blanks follow, how many bytes are given before a read fails, the
+    // answer
     for (front, blanks, stop, wanted) in [
         (b"".as_slice(), 0, None, no_magic),
         (b"# SD", 0, None, no_magic),

@@ -1,5 +1,5 @@
-//! The list of bodies of a run: rows are checked as they come, and the list is put into key order (Morton order, after
-//! Warren and Salmon, 1993).
+//! The list of bodies of a run: rows are checked as they come, and the list is put into key order
+//! (Morton order, after Warren and Salmon, 1993).
 #![tactic(auto)]
 
 mod fault;

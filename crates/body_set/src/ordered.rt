@@ -7,8 +7,8 @@ use hot_model::Body;
 use std::cmp::Ordering;
 use std::marker::Model;
 
-/// The bodies of a set by ascending key and then row, that is in Morton order, with the idents and work weights of the
-/// rows in file order. A body's `row` is the place of its ident and weight.
+/// The bodies of a set by ascending key and then row, that is in Morton order, with the idents and
+/// work weights of the rows in file order. A body's `row` is the place of its ident and weight.
 #[derive(Drop)]
 pub struct Ordered {
     bodies: Vec<Body>,

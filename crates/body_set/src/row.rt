@@ -8,8 +8,8 @@ use hot_model::limits::{FINE_BITS, MAX_BODIES, MAX_BODY_MASS, MAX_WORK};
 use hot_model::{Axis, Body, Cube, body_of};
 use sdf_rows::RawRow;
 
-/// A coordinate of the file in fine units; None exactly outside the cube. The distance from the corner is taken without a
-/// sign, so it is exact for every 128-bit number.
+/// A coordinate of the file in fine units; None exactly outside the cube. The distance from the
+/// corner is taken without a sign, so it is exact for every 128-bit number.
 fn fine(bits: u32, corner: i128, at: i128) -> Option<u32>
     requires low { 1 ≤ bits }
     requires high { bits ≤ fine_bits }

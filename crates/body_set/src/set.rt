@@ -11,8 +11,8 @@ use sdf_rows::RawRow;
 use std::alloc::{AllocError, Global};
 use std::marker::Model;
 
-/// The bodies of a body file in file order, with the ident and the work weight of each row: 52 bytes a body. Clauses see
-/// the cube and three lists.
+/// The bodies of a body file in file order, with the ident and the work weight of each row: 52
+/// bytes a body. Clauses see the cube and three lists.
 #[derive(Drop)]
 pub struct BodySet {
     cube: Cube,
@@ -69,9 +69,10 @@ impl BodySet {
         }
     }
 
-    /// Adds a row as the next one. It is refused for the first that is wrong with it, in this order: the set has 262,144
-    /// rows; the place is outside the cube on x, on y, on z; the mass is not 1 to 4,194,304; the work is not 0 to
-    /// 2^32 - 1. Memory may run out for a row that is good. A refusal leaves the set unchanged.
+    /// Adds a row as the next one. It is refused for the first that is wrong with it, in this
+    /// order: the set has 262,144 rows; the place is outside the cube on x, on y, on z; the mass is
+    /// not 1 to 4,194,304; the work is not 0 to 2^32 - 1. Memory may run out for a row that is
+    /// good. A refusal leaves the set unchanged.
     pub fn push(&mut self, raw: &RawRow) -> Result<(), PushError>
         ensures first_fault { MatchOption (first_fault self.old.cube (length self.old.bodies) raw.now) (IsOkUnless result PushError.Memory) (λ fault. result ≡ Err fault) }
         ensures pushed { OnOk result (self.new ≡ sets.with_row self.old raw.now) }
@@ -98,7 +99,8 @@ impl BodySet {
         self.bodies.len()
     }
 
-    /// The bodies by ascending key and then row. The sort works in place, so memory is never refused here.
+    /// The bodies by ascending key and then row. The sort works in place, so memory is never
+    /// refused here.
     pub fn order(self, _alloc: Global) -> Result<Ordered, AllocError>
         ensures ordered { IsOkAnd result (λ o. o ≡ sets.in_key_order self) }
     {

@@ -11,8 +11,8 @@ use std::alloc::{AllocError, Global};
 /// The root: nothing is above it.
 const ROOT: u64 = 1;
 
-/// Adds the keys of the cells above a cell, from its parent up to the first that is also above a cell for which they have
-/// been added.
+/// Adds the keys of the cells above a cell, from its parent up to the first that is also above a
+/// cell for which they have been added.
 fn add_above(keys: &mut Vec<u64>, cell: u64, before: u64) -> Result<(), AllocError>
     requires cell { IsCell cell }
     requires before { IsCell before }

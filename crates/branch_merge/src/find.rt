@@ -4,7 +4,8 @@ ghost use Rattle.branch_merge.specs.Merged.{key_of_top};
 
 use crate::TopCell;
 
-/// The top cell of a key in a list by ascending key; None exactly where it does not stand there. A binary search.
+/// The top cell of a key in a list by ascending key; None exactly where it does not stand there. A
+/// binary search.
 pub(crate) fn find(cells: &[TopCell], key: u64) -> Option<&TopCell>
     requires order { IsNonDecreasingBy key_of_top cells.now }
     ensures found { MatchOption result (All (λ c. c.rec.key ≡ key → ⊥) cells.now) (λ c. (c.now.rec.key ≡ key) × Contains cells.now c.now) }

@@ -1,5 +1,5 @@
-//! The shared top of the tree: from the branch lists of all ranks the cells above them, their records over all bodies,
-//! their children, and the owner of each branch (Warren and Salmon, 1993).
+//! The shared top of the tree: from the branch lists of all ranks the cells above them, their
+//! records over all bodies, their children, and the owner of each branch (Warren and Salmon, 1993).
 #![tactic(auto)]
 
 mod above;

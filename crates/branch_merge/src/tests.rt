@@ -41,7 +41,8 @@ fn cell_is(rt: &impl Abort, cell: Option<&TopCell>, want: Option<(Numbers, &[u64
     }
 }
 
-/// A key with the rank of its owner, if it has one, and the numbers of its listed record, if it is listed.
+/// A key with the rank of its owner, if it has one, and the numbers of its listed record, if it is
+/// listed.
 type Asked = (u64, Option<u32>, Option<Numbers>);
 
 fn owned(rt: &impl Abort, top: &Top, asked: &[Asked]) {

@@ -17,8 +17,8 @@ use morton_key::first_key;
 use std::alloc::{AllocError, Global};
 use std::marker::Model;
 
-/// The top of the tree that all ranks share. Clauses see the listed records, each with its rank; what the calls answer is
-/// defined on them.
+/// The top of the tree that all ranks share. Clauses see the listed records, each with its rank;
+/// what the calls answer is defined on them.
 ///
 /// The listed records stand in Morton order, and the top cells by ascending key.
 #[derive(Drop)]
@@ -40,9 +40,9 @@ impl Model for Top {
 }
 
 impl Top {
-    /// Merges the branch lists of at most 64 ranks; list `q` is that of rank `q`. The top cells are the cells that properly
-    /// contain a listed one. Time is that of sorting the listed cells and the levels above them. A refusal is want of
-    /// memory.
+    /// Merges the branch lists of at most 64 ranks; list `q` is that of rank `q`. The top cells are
+    /// the cells that properly contain a listed one. Time is that of sorting the listed cells and
+    /// the levels above them. A refusal is want of memory.
     pub fn merge(alloc: Global, lists: &[RecList]) -> Result<Top, AllocError>
         requires lists { listing.CanMerge lists.now }
         ensures merged { IfOk result (λ t. IsPermutation (listing.all_listed lists.now) t) }
@@ -52,8 +52,8 @@ impl Top {
         Ok(Top { listed, cells })
     }
 
-    /// The top cell of a key, with its record and its children; None exactly where the key is no top cell's.
-    /// A binary search. It takes no memory.
+    /// The top cell of a key, with its record and its children; None exactly where the key is no
+    /// top cell's. A binary search. It takes no memory.
     pub fn get(&self, key: u64) -> Option<&TopCell>
         ensures cell { MatchOption result (tops.IsTopOf self.now key → ⊥) (λ cell. tops.IsTopOf self.now key × tops.IsTopCell self.now key cell.now) }
     {
@@ -74,7 +74,8 @@ impl Top {
         if covers(rec.key, key) { Some(*x) } else { None }
     }
 
-    /// The listed record of a cell; None exactly where it is not listed. A binary search. It takes no memory.
+    /// The listed record of a cell; None exactly where it is not listed. A binary search. It takes
+    /// no memory.
     pub fn branch(&self, key: u64) -> Option<CellRec>
         requires cell { IsCell key }
         ensures listed { MatchOption result (All (λ x. x.rec.key ≡ key → ⊥) self.now) (λ r. (r.key ≡ key) × ((x : Listed) × Contains self.now x × (x.rec ≡ r))) }
@@ -85,8 +86,8 @@ impl Top {
         }
     }
 
-    /// The rank of the listed cell that contains or is this cell; None exactly where there is none. A binary search. It takes
-    /// no memory.
+    /// The rank of the listed cell that contains or is this cell; None exactly where there is none.
+    /// A binary search. It takes no memory.
     pub fn owner(&self, key: u64) -> Option<u32>
         requires cell { IsCell key }
         ensures owner { MatchOption result ((q : ℕ) → tops.IsOwnerIn self.now q key → ⊥) (λ q. tops.IsOwnerIn self.now q key) }
@@ -94,7 +95,8 @@ impl Top {
         self.holder(key).map(|x| x.rank)
     }
 
-    /// The i-th top cell by ascending key, counted from 0; None exactly past the last. It takes no memory.
+    /// The i-th top cell by ascending key, counted from 0; None exactly past the last. It takes no
+    /// memory.
     pub fn at(&self, i: usize) -> Option<&TopCell>
         ensures cell { (keys : List ℕ) × tops.AreTops self.now keys × MatchOption result (length keys ≤ i) (λ cell. (i < length keys) × tops.IsTopCell self.now (get_or keys i 0) cell.now) }
     {

@@ -13,9 +13,10 @@ use arrayvec::ArrayVec;
 use hot_model::CellRec;
 use std::alloc::{AllocError, Global};
 
-/// A cell that properly contains listed ones: its record, the sum of theirs, and the keys of its children that have listed
-/// records in them, by ascending key. Of the branch lists of all ranks these are the cells with bodies of two or more
-/// ranks, with their records over all bodies, and each child is such a cell or a branch.
+/// A cell that properly contains listed ones: its record, the sum of theirs, and the keys of its
+/// children that have listed records in them, by ascending key. Of the branch lists of all ranks
+/// these are the cells with bodies of two or more ranks, with their records over all bodies, and
+/// each child is such a cell or a branch.
 #[derive(Drop)]
 pub struct TopCell {
     pub rec: CellRec,

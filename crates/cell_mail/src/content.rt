@@ -5,8 +5,8 @@ use hot_model::{AnswerList, KeyList, RecList};
 use std::alloc::AllocError;
 use thiserror::Error;
 
-/// What a letter is for: it tells the branches of its sender, asks for cells of its receiver, or answers for cells of
-/// its sender.
+/// What a letter is for: it tells the branches of its sender, asks for cells of its receiver, or
+/// answers for cells of its sender.
 #[derive(Clone, Copy, Debug, PartialEq, Eq)]
 pub enum Kind {
     Branches,
@@ -14,8 +14,8 @@ pub enum Kind {
     Answers,
 }
 
-/// What is in a letter: the records of the sender's branches, the keys of the cells that are asked for, or the answers
-/// for cells.
+/// What is in a letter: the records of the sender's branches, the keys of the cells that are asked
+/// for, or the answers for cells.
 #[derive(Drop)]
 pub enum Content {
     Branches(RecList),

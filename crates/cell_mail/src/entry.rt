@@ -25,8 +25,8 @@ pub(crate) trait Entry: Drop + Sized {
         ensures { OnOk result (out.new.items ≡ out.old.items ++ spelled self.now) };
 }
 
-/// So many entries at the front. The loop ends at the first that is not there, so a count that claims more than there is
-/// costs nothing.
+/// So many entries at the front. The loop ends at the first that is not there, so a count that
+/// claims more than there is costs nothing.
 fn many_of<T: Entry>(
     alloc: Global,
     count: u32,

@@ -18,8 +18,9 @@ use hot_model::{AnswerList, KeyList, RecList};
 use std::alloc::{AllocError, Global};
 use std::marker::Model;
 
-/// A letter from one rank to another: the bytes of its content, with the kind and the keys of its items at hand.
-/// Clauses see the sender, the receiver and the content. Ranks are below 64 and differ.
+/// A letter from one rank to another: the bytes of its content, with the kind and the keys of its
+/// items at hand. Clauses see the sender, the receiver and the content. Ranks are below 64 and
+/// differ.
 #[derive(Drop)]
 pub struct Letter {
     from: u32,
@@ -51,8 +52,8 @@ fn spelled<T: Entry>(alloc: Global, kind: u8, items: &[T]) -> Result<Vec<u8>, Al
 }
 
 impl Letter {
-    /// The letter that tells the branches of a rank: at most 262,144 records with at least one body each, by strictly
-    /// ascending key, none in another one. Its bytes are the one spelling.
+    /// The letter that tells the branches of a rank: at most 262,144 records with at least one body
+    /// each, by strictly ascending key, none in another one. Its bytes are the one spelling.
     #[tactic(auto, using(crate::proofs::Hints::on_letters))]
     pub fn branches(alloc: Global, from: u32, to: u32, list: &RecList) -> Result<Letter, AllocError>
         requires ranks { letters.AreRanks from to }
@@ -70,8 +71,8 @@ impl Letter {
         })
     }
 
-    /// The letter that asks for cells: one or more keys of cells below the root, strictly ascending. Its bytes are the
-    /// one spelling.
+    /// The letter that asks for cells: one or more keys of cells below the root, strictly
+    /// ascending. Its bytes are the one spelling.
     #[tactic(auto, using(crate::proofs::Hints::on_letters))]
     pub fn asks(alloc: Global, from: u32, to: u32, keys: &KeyList) -> Result<Letter, AllocError>
         requires ranks { letters.AreRanks from to }
@@ -89,8 +90,9 @@ impl Letter {
         })
     }
 
-    /// The letter that answers for cells: one or more cells below the root by strictly ascending key, each with the
-    /// records of 1 to 8 children or with the bodies of a leaf in order. Its bytes are the one spelling.
+    /// The letter that answers for cells: one or more cells below the root by strictly ascending
+    /// key, each with the records of 1 to 8 children or with the bodies of a leaf in order. Its
+    /// bytes are the one spelling.
     #[tactic(auto, using(crate::proofs::Hints::on_letters))]
     pub fn answers(
         alloc: Global,
@@ -113,9 +115,9 @@ impl Letter {
         })
     }
 
-    /// The letter with these bytes. `NotALetter` exactly where the bytes are in no form of the grammar; memory may run
-    /// out. Any bytes may be given: the time is linear in their number, and no allocation is larger than they are,
-    /// whatever a count claims.
+    /// The letter with these bytes. `NotALetter` exactly where the bytes are in no form of the
+    /// grammar; memory may run out. Any bytes may be given: the time is linear in their number, and
+    /// no allocation is larger than they are, whatever a count claims.
     pub fn from_bytes(
         alloc: Global,
         from: u32,
@@ -193,7 +195,8 @@ impl Letter {
         self.keys.len() as u32
     }
 
-    /// The key of the i-th item, counted from 0; None exactly where `i >= count`. It takes no memory.
+    /// The key of the i-th item, counted from 0; None exactly where `i >= count`. It takes no
+    /// memory.
     pub fn key(&self, i: u32) -> Option<u64>
         ensures key { result ≡ slice_get (keys_of self.now.content) i }
     {

@@ -1,6 +1,6 @@
-//! Letters between ranks, as bytes: the branches of a rank, asks for cells, and answers for them (the messages of a
-//! parallel hashed oct-tree, after Warren and Salmon, 1993). A content has one spelling, and bytes that came from outside
-//! are read as a letter or refused.
+//! Letters between ranks, as bytes: the branches of a rank, asks for cells, and answers for them
+//! (the messages of a parallel hashed oct-tree, after Warren and Salmon, 1993). A content has one
+//! spelling, and bytes that came from outside are read as a letter or refused.
 #![tactic(auto)]
 
 mod answer;

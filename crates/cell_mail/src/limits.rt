@@ -1,4 +1,5 @@
-//! The version and the marks of letters, the numbers of specs/Sizes.antt for the code, and the tests of one item.
+//! The version and the marks of letters, the numbers of specs/Sizes.antt for the code, and the
+//! tests of one item.
 ghost use Rattle.std.specs.Prelude.{◌≡◌};
 ghost use Rattle.cell_mail.specs.Reading as reading;
 

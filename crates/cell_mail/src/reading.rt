@@ -42,7 +42,8 @@ fn starts_with(keys: &[u64], key: u64) -> bool
     }
 }
 
-/// Whether one of the cells lies so many levels above another one, where they are in order: one pass with two places.
+/// Whether one of the cells lies so many levels above another one, where they are in order: one
+/// pass with two places.
 #[tactic(auto, using(crate::proofs::Hints::on_passes))]
 fn have_ancestors(keys: &[u64], up: u32) -> bool
     requires { up ≤ max_level }
@@ -129,7 +130,8 @@ pub(crate) fn parsed(alloc: Global, bytes: &[u8]) -> Result<(Content, &[u8]), Le
     Ok((content, rest))
 }
 
-/// The kind of this number, the keys of the items, each of which is good by itself, and the bytes after them.
+/// The kind of this number, the keys of the items, each of which is good by itself, and the bytes
+/// after them.
 #[tactic(auto, unfolding(crate::specs::Skimming::keys_at))]
 fn keys_of_kind(
     alloc: Global,
@@ -169,8 +171,8 @@ fn skimmed(alloc: Global, bytes: &[u8]) -> Result<(Kind, KeyList, &[u8]), Letter
     Ok((kind, keys, rest))
 }
 
-/// The kind and the keys of the content that all of the bytes spell. The content is not built: nothing is allocated but
-/// the keys, which are no larger than the bytes.
+/// The kind and the keys of the content that all of the bytes spell. The content is not built:
+/// nothing is allocated but the keys, which are no larger than the bytes.
 #[tactic(auto, unfolding(crate::specs::Skimming::skimming))]
 pub(crate) fn whole(alloc: Global, bytes: &[u8]) -> Result<(Kind, KeyList), LetterError>
     ensures { spec.Gives (λ x. (x.0, x.1)) result (skimming.skimming bytes.now) }

@@ -20,8 +20,9 @@ pub(crate) trait Skim: Sized {
         ensures { Gives (λ x. (x.0, x.1.now)) result (key_at bytes.now) };
 }
 
-/// The keys of so many items at the front. The list has room for as many as there is place for in the bytes, since an
-/// item takes its key at least: it is no larger than the bytes, whatever a count claims, and never grows.
+/// The keys of so many items at the front. The list has room for as many as there is place for in
+/// the bytes, since an item takes its key at least: it is no larger than the bytes, whatever a
+/// count claims, and never grows.
 fn keys_of_many<T: Skim>(
     alloc: Global,
     count: u32,
@@ -54,10 +55,12 @@ pub(crate) fn counted_keys<T: Skim>(
 
 /// What stands in the answer for a cell, one behind the other.
 pub(crate) trait Row: Entry {
-    /// Whether a value may stand in the answer for a cell behind the one before it, if there is one.
+    /// Whether a value may stand in the answer for a cell behind the one before it, if there is
+    /// one.
     ghost stands: { ℕ → Option Self → Self → Bool };
 
-    /// Whether the value may stand in the answer for a cell behind the one before it, if there is one.
+    /// Whether the value may stand in the answer for a cell behind the one before it, if there is
+    /// one.
     fn stands(&self, cell: u64, last: &Option<Self>) -> bool
         requires { keys.IsCell cell }
         ensures { result ≡ stands cell last.now self.now };

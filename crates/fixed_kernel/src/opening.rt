@@ -7,8 +7,8 @@ use crate::Ratio;
 use crate::distance::distance2;
 use hot_model::{Body, CellRec, covers, level};
 
-/// The centre of mass of a cell that is not empty, rounded down on each axis: three fine coordinates, each below 2^29.
-/// It takes no memory.
+/// The centre of mass of a cell that is not empty, rounded down on each axis: three fine
+/// coordinates, each below 2^29. It takes no memory.
 #[inline]
 pub fn centre(c: &CellRec) -> [u32; 3]
     requires not_empty { 0 < c.now.count }
@@ -18,11 +18,12 @@ pub fn centre(c: &CellRec) -> [u32; 3]
     c.centre()
 }
 
-/// The opening test of Barnes and Hut (1986): whether a cell that is not empty counts as one source for the body, since
-/// its side is less than the ratio times the distance from the body to its centre of mass.
+/// The opening test of Barnes and Hut (1986): whether a cell that is not empty counts as one source
+/// for the body, since its side is less than the ratio times the distance from the body to its
+/// centre of mass.
 ///
-/// The test is strict, so a cell at equality is opened, and a cell that contains the body is always opened. It compares
-/// whole numbers exactly, takes no memory and divides nothing.
+/// The test is strict, so a cell at equality is opened, and a cell that contains the body is always
+/// opened. It compares whole numbers exactly, takes no memory and divides nothing.
 #[tactic(auto, using(crate::proofs::Hints::on_accepts), unfolding(hot_model::specs::Kernel::accepts))]
 #[inline]
 pub fn accepts(b: &Body, c: &CellRec, ratio: Ratio) -> bool

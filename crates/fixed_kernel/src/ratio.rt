@@ -5,11 +5,11 @@ ghost use Rattle.fixed_kernel.specs.Ratio.{reach_of};
 use hot_model::limits::MAX_RATIO;
 use std::marker::Model;
 
-/// The opening ratio `num / den` of the walk: a cell is taken whole where its side is less than the ratio times its
-/// distance (Barnes and Hut, 1986). It is kept as given, and not reduced.
+/// The opening ratio `num / den` of the walk: a cell is taken whole where its side is less than the
+/// ratio times its distance (Barnes and Hut, 1986). It is kept as given, and not reduced.
 ///
-/// Clauses see the two numbers. The value also keeps the squared distance beyond which the largest cell is accepted, so
-/// that the opening test divides nothing.
+/// Clauses see the two numbers. The value also keeps the squared distance beyond which the largest
+/// cell is accepted, so that the opening test divides nothing.
 #[derive(Clone, Copy)]
 pub struct Ratio {
     num: u32,
@@ -46,8 +46,8 @@ fn reach_by(num: u32, den: u32) -> u128
 }
 
 impl Ratio {
-    /// The ratio of two numbers: `num` 0 to 1024, `den` 1 to 1024. None exactly where one is out of its limit. At `num`
-    /// 0 no cell is ever accepted.
+    /// The ratio of two numbers: `num` 0 to 1024, `den` 1 to 1024. None exactly where one is out of
+    /// its limit. At `num` 0 no cell is ever accepted.
     pub fn new(num: u32, den: u32) -> Option<Self>
         ensures within { IsSome result ↔ ((num ≤ max_ratio) × (1 ≤ den) × (den ≤ max_ratio)) }
         ensures value { IfSome result (λ r. r ≡ record { num = num; den = den }) }

@@ -5,7 +5,8 @@ ghost use Rattle.hot_model.specs.Kernel.{IsRoot};
 
 use crate::floats::hint_root;
 
-/// The square root, rounded down, by Newton's steps: half the sum of a guess from above and what it divides to.
+/// The square root, rounded down, by Newton's steps: half the sum of a guess from above and what it
+/// divides to.
 #[tactic(auto, using(crate::proofs::Hints::on_root))]
 #[inline(never)]
 fn slow_root(n: u128) -> u128
@@ -43,9 +44,11 @@ pub(crate) fn root_by(n: u128, hint: u64) -> u128
     }
 }
 
-/// The square root, rounded down: the `g` with `g^2 <= n < (g + 1)^2`, for every `n`. It takes no memory.
+/// The square root, rounded down: the `g` with `g^2 <= n < (g + 1)^2`, for every `n`. It takes no
+/// memory.
 ///
-/// A guess by floats is tested by whole numbers; where it is wrong, Newton's steps from above find the root.
+/// A guess by floats is tested by whole numbers; where it is wrong, Newton's steps from above find
+/// the root.
 pub fn root(n: u128) -> u128
     ensures root { IsRoot n result }
     ensures value { result ≡ kernel.root n }

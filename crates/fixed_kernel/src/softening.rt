@@ -4,7 +4,8 @@ ghost use Rattle.hot_model.specs.Limits.{max_softening};
 use hot_model::limits::MAX_SOFTENING;
 use std::marker::Model;
 
-/// The softening length of gravity, in fine units (Plummer softening: its square is added to each squared distance).
+/// The softening length of gravity, in fine units (Plummer softening: its square is added to each
+/// squared distance).
 ///
 /// Clauses see it as its number.
 #[derive(Clone, Copy)]
@@ -26,7 +27,8 @@ impl Model for Eps {
 }
 
 impl Eps {
-    /// The softening of `n` fine units, 1 to 268,435,456. None exactly where the number is out of this limit.
+    /// The softening of `n` fine units, 1 to 268,435,456. None exactly where the number is out of
+    /// this limit.
     pub fn new(n: u32) -> Option<Self>
         ensures within { IsSome result ↔ ((1 ≤ n) × (n ≤ max_softening)) }
         ensures value { IfSome result (λ e. e ≡ n) }

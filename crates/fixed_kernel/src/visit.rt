@@ -11,11 +11,11 @@ use hot_model::{Acc3, Body, CellRec, Seen, Visit};
 use std::alloc::{AllocError, Global};
 use std::marker::Model;
 
-/// The visit of the gravity walk (Barnes and Hut, 1986): it opens a cell that the opening test does not accept, and adds
-/// up the pulls of the cells and bodies that it meets.
+/// The visit of the gravity walk (Barnes and Hut, 1986): it opens a cell that the opening test does
+/// not accept, and adds up the pulls of the cells and bodies that it meets.
 ///
-/// Additions may change places, and each component stays at most 2^40 times the mass seen. Clauses see the ratio and the
-/// softening.
+/// Additions may change places, and each component stays at most 2^40 times the mass seen. Clauses
+/// see the ratio and the softening.
 #[derive(Clone, Copy)]
 pub struct ForceVisit {
     ratio: Ratio,
@@ -106,7 +106,8 @@ impl Visit for ForceVisit {
         Ok(())
     }
 
-    /// Adds the pull of another body; a body that meets itself adds 0. It never refuses, and takes no memory.
+    /// Adds the pull of another body; a body that meets itself adds 0. It never refuses, and takes
+    /// no memory.
     fn near(&self, acc: &mut Acc3, b: &Body, other: &Body) -> Result<(), AllocError>
         requires room { acc.old.seen + other.now.mass ≤ max_all_mass }
         ensures never_refused { result ≡ Ok tt }

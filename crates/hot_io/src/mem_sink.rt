@@ -8,8 +8,8 @@ use std::marker::Model;
 
 /// A sink into memory, for tests and for callers that want the bytes at hand.
 ///
-/// It takes at most `chunk` bytes in a write, and fails once it holds `room` bytes. It tells all its
-/// bytes.
+/// It takes at most `chunk` bytes in a write, and fails once it holds `room` bytes. It tells all
+/// its bytes.
 #[derive(Drop)]
 pub struct MemSink {
     bytes: Vec<u8>,

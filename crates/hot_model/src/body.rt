@@ -5,8 +5,8 @@ ghost use Rattle.hot_model.specs.Keys as keys;
 use crate::limits::{FINE_BITS, MAX_BODY_MASS, MAX_LEVEL};
 use std::marker::Model;
 
-/// A body: its place in fine units (each coordinate below 2^29), its mass (1 to 4,194,304), its row in the file,
-/// and the Morton key of its place (Warren and Salmon, 1993).
+/// A body: its place in fine units (each coordinate below 2^29), its mass (1 to 4,194,304), its row
+/// in the file, and the Morton key of its place (Warren and Salmon, 1993).
 ///
 /// Clauses see all but the key, which the place determines.
 #[derive(Clone, Copy)]
@@ -34,8 +34,9 @@ impl Model for Body {
     ghost inverse = { λ v. record { x = v.x; y = v.y; z = v.z; mass = v.mass; row = v.row; key = place_key v.x v.y v.z } };
 }
 
-/// The Morton key of a place in fine units (each coordinate below 2^29), digit by digit: 1, and then for each of 21
-/// levels the bits of x, y and z from the highest on (Warren and Salmon, 1993). It takes no memory.
+/// The Morton key of a place in fine units (each coordinate below 2^29), digit by digit: 1, and
+/// then for each of 21 levels the bits of x, y and z from the highest on (Warren and Salmon, 1993).
+/// It takes no memory.
 #[tactic(auto, using(crate::proofs::Keys::on_keys))]
 pub fn place_key(x: u32, y: u32, z: u32) -> u64
     requires x_in { x < 2 ^ fine_bits }
@@ -52,8 +53,8 @@ pub fn place_key(x: u32, y: u32, z: u32) -> u64
     key
 }
 
-/// The body at a place in fine units. None exactly where a coordinate is 2^29 or more, or the mass is not 1 to
-/// 4,194,304. It takes no memory.
+/// The body at a place in fine units. None exactly where a coordinate is 2^29 or more, or the mass
+/// is not 1 to 4,194,304. It takes no memory.
 pub fn body_of(x: u32, y: u32, z: u32, mass: u32, row: u32) -> Option<Body>
     ensures in_range { IsSome result ↔ ((x < 2 ^ fine_bits) × (y < 2 ^ fine_bits) × (z < 2 ^ fine_bits) × (1 ≤ mass) × (mass ≤ max_body_mass)) }
     ensures value { IfSome result (λ b. b ≡ record { x = x; y = y; z = z; mass = mass; row = row }) }

@@ -7,10 +7,12 @@ ghost use Rattle.hot_model.specs.Keys as keys;
 use crate::Seen;
 use std::marker::Model;
 
-/// The record of a cell: its key, the count and mass of its bodies, and the sums of mass times coordinate.
+/// The record of a cell: its key, the count and mass of its bodies, and the sums of mass times
+/// coordinate.
 ///
-/// It is made by `CellRec::new` alone, since it keeps the centre of mass beside the sums: the opening test and the pull
-/// of a cell then divide nothing. Clauses do not see the centre, which the sums determine.
+/// It is made by `CellRec::new` alone, since it keeps the centre of mass beside the sums: the
+/// opening test and the pull of a cell then divide nothing. Clauses do not see the centre, which
+/// the sums determine.
 #[derive(Clone, Copy)]
 pub struct CellRec {
     pub key: u64,
@@ -70,7 +72,8 @@ impl CellRec {
         }
     }
 
-    /// The centre of mass, rounded down on each axis, in fine units (0, 0, 0 for a cell without mass).
+    /// The centre of mass, rounded down on each axis, in fine units (0, 0, 0 for a cell without
+    /// mass).
     #[tactic(auto, using(crate::proofs::Keys::on_parts))]
     #[inline]
     pub fn centre(&self) -> [u32; 3]
@@ -81,8 +84,9 @@ impl CellRec {
     }
 }
 
-/// The accumulator of gravity: the mass that a body has seen (at most 2^40), and the force on it so far, each component
-/// at most 2^40 times that mass in size. A force is in units of 2^-40 of mass over squared fine distance.
+/// The accumulator of gravity: the mass that a body has seen (at most 2^40), and the force on it so
+/// far, each component at most 2^40 times that mass in size. A force is in units of 2^-40 of mass
+/// over squared fine distance.
 #[derive(Clone, Copy)]
 pub struct Acc3 {
     pub seen: u64,
@@ -105,7 +109,8 @@ impl Model for Acc3 {
     ghost inverse = { λ v. record { seen = v.seen; ax = v.ax; ay = v.ay; az = v.az } };
 }
 
-/// The level of a cell key: the number of its octal digits behind the leading 1, 0 to 21. It takes no memory.
+/// The level of a cell key: the number of its octal digits behind the leading 1, 0 to 21. It takes
+/// no memory.
 #[tactic(auto, using(crate::proofs::Keys::on_levels))]
 #[inline]
 pub fn level(key: u64) -> u32

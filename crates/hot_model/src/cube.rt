@@ -1,7 +1,8 @@
 use std::marker::Model;
 
-/// The cube of a body file: bodies have whole coordinates from the corner `x0`, `y0`, `z0` on, over an edge of
-/// 2^`bits` (1 to 29 bits). A coordinate `x` of the file is `(x - x0) * 2^(29 - bits)` in fine units.
+/// The cube of a body file: bodies have whole coordinates from the corner `x0`, `y0`, `z0` on, over
+/// an edge of 2^`bits` (1 to 29 bits). A coordinate `x` of the file is `(x - x0) * 2^(29 - bits)`
+/// in fine units.
 #[derive(Clone, Copy)]
 pub struct Cube {
     pub bits: u32,

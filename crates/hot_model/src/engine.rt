@@ -7,8 +7,8 @@ ghost use Rattle.hot_model.specs.Forces.{RowsDiffer, AreForces};
 use crate::{Acc3, Body};
 use std::alloc::{AllocError, Global};
 
-/// What computes the forces that the bodies of a list have on each other: those of the recursive walk of one tree
-/// over all of them (Barnes and Hut, 1986), whatever way the engine takes.
+/// What computes the forces that the bodies of a list have on each other: those of the recursive
+/// walk of one tree over all of them (Barnes and Hut, 1986), whatever way the engine takes.
 pub trait ForceEngine {
     /// What the engine uses and does not own, as a way to send letters.
     type Link;
@@ -25,8 +25,8 @@ pub trait ForceEngine {
     /// The same after a refusal.
     ghost refuses: { Self → Self.Link → List BodyValue → Self → Self.Link → Type 0 };
 
-    /// The force on each body of the slice, in its order, with the engine's numbers; each has seen the mass of all
-    /// bodies. A refusal is want of memory. No call changes the engine's numbers.
+    /// The force on each body of the slice, in its order, with the engine's numbers; each has seen
+    /// the mass of all bodies. A refusal is want of memory. No call changes the engine's numbers.
     fn forces(
         &mut self,
         alloc: Global,

@@ -1,4 +1,5 @@
-//! The definitions of `hot`, in specs/, and the types that stand for them: bodies, cells, accumulators, visits, engines.
+//! The definitions of `hot`, in specs/, and the types that stand for them: bodies, cells,
+//! accumulators, visits, engines.
 #![tactic(auto)]
 
 mod body;

@@ -32,7 +32,8 @@ pub type KeyList = Items<u64>;
 /// Answers to the cells that a rank was asked for.
 pub type AnswerList = Items<Answered>;
 
-/// What an owner answers for a cell: the records of its children that have bodies, or, where it is a leaf, its bodies.
+/// What an owner answers for a cell: the records of its children that have bodies, or, where it is
+/// a leaf, its bodies.
 #[derive(Drop)]
 pub enum Answer {
     Children(RecList),
@@ -65,7 +66,8 @@ impl<T> Items<T> {
         })
     }
 
-    /// Adds an item at the end. Where memory runs out the list is unchanged and the item is dropped.
+    /// Adds an item at the end. Where memory runs out the list is unchanged and the item is
+    /// dropped.
     pub fn push(&mut self, item: T) -> Result<(), AllocError>
     where
         T: Drop,

@@ -1,5 +1,5 @@
-/// How letters between ranks are handed out: all of them each round, oldest first or newest first; one a round;
-/// or by draws from a seed.
+/// How letters between ranks are handed out: all of them each round, oldest first or newest first;
+/// one a round; or by draws from a seed.
 #[derive(Clone, Copy)]
 pub enum Mail {
     Prompt,

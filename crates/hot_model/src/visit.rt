@@ -16,10 +16,11 @@ pub trait Seen {
         ensures value { result ≡ seen_of self.now };
 }
 
-/// What a walk of the tree does for a body with the cells and bodies that it meets: it opens a cell, or adds it as one
-/// source, and adds the bodies of a leaf one by one.
+/// What a walk of the tree does for a body with the cells and bodies that it meets: it opens a
+/// cell, or adds it as one source, and adds the bodies of a leaf one by one.
 ///
-/// Additions may change places, so an accumulator is the same in whatever order a walk meets its terms.
+/// Additions may change places, so an accumulator is the same in whatever order a walk meets its
+/// terms.
 pub trait Visit: Send + Drop {
     type Acc: Seen + Send + Drop;
 

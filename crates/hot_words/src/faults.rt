@@ -7,8 +7,8 @@ use crate::places::{ends_words, find_option, has_dashes, word_at};
 use crate::table::{CommandName, is_option, is_value, wants_file, wants_value};
 use crate::word_list::WordList;
 
-/// Why words are refused: no command; no command of this name; no option of this name; no value; an option twice; a
-/// bad value; a word too many.
+/// Why words are refused: no command; no command of this name; no option of this name; no value; an
+/// option twice; a bad value; a word too many.
 #[derive(Clone, Copy, Debug, PartialEq, Eq)]
 pub enum WordCode {
     A1,
@@ -81,8 +81,8 @@ fn judge(name: CommandName, words: &WordList, place: usize, holds_value: bool) -
     }
 }
 
-/// The first fault from the left of the words behind a command. Words without a fault are few, so it reads a few words
-/// at most, however many there are.
+/// The first fault from the left of the words behind a command. Words without a fault are few, so
+/// it reads a few words at most, however many there are.
 pub fn first_fault(name: CommandName, words: &WordList) -> Option<WordFault>
     ensures first { result ≡ fault_first name words.now }
     ensures placed { IfSome result (λ fault. fault.place < length words.now) }

@@ -5,9 +5,9 @@ ghost use Rattle.hot_model.specs.Limits.{max_ranks, max_leaf};
 use fixed_kernel::{Eps, Ratio};
 use hot_model::Mail;
 
-/// The numbers and choices of a run: ranks, 1 to 64; the opening ratio; the softening; the most bodies of a leaf, 1 to
-/// 64; how letters are handed out; whether the output is SDF, and not text; whether a report is asked for; and the file,
-/// where `-` is standard input.
+/// The numbers and choices of a run: ranks, 1 to 64; the opening ratio; the softening; the most
+/// bodies of a leaf, 1 to 64; how letters are handed out; whether the output is SDF, and not text;
+/// whether a report is asked for; and the file, where `-` is standard input.
 #[derive(Drop)]
 pub struct Job<'a> {
     pub ranks: u32,
@@ -22,8 +22,9 @@ pub struct Job<'a> {
     ghost leaf_in: { (1 ≤ leaf) × (leaf ≤ max_leaf) },
 }
 
-/// What the program is to do: print the forces on the bodies of a file; print how a file's bodies are split by ranks, 1
-/// to 64; write a file of so many generated bodies, at most 262,144; or run on such bodies.
+/// What the program is to do: print the forces on the bodies of a file; print how a file's bodies
+/// are split by ranks, 1 to 64; write a file of so many generated bodies, at most 262,144; or run
+/// on such bodies.
 #[derive(Drop)]
 pub enum Command<'a> {
     Forces(Job<'a>),

@@ -1,5 +1,5 @@
-//! The words behind the program's name: the command with its options, or the first refusal from the left. Reading them
-//! takes no memory.
+//! The words behind the program's name: the command with its options, or the first refusal from the
+//! left. Reading them takes no memory.
 #![tactic(auto)]
 
 mod command;

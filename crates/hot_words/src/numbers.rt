@@ -17,7 +17,8 @@ fn all_digits(word: &[u8]) -> bool
     word.iter().all(|byte| b'0' <= *byte && *byte <= b'9')
 }
 
-/// The value of 1 to 20 ASCII digits; None exactly where the word is not that, or its value does not fit 64 bits.
+/// The value of 1 to 20 ASCII digits; None exactly where the word is not that, or its value does
+/// not fit 64 bits.
 pub fn read_number(word: &str) -> Option<u64>
     ensures value { result ≡ number_of word.now }
 {
@@ -85,8 +86,8 @@ fn cut(word: &str) -> Option<(&str, &str)>
     word.split_once('/')
 }
 
-/// A ratio, two numbers with one `/` between them: 0 to 1,024 over 1 to 1,024. None exactly where the word is no such
-/// ratio.
+/// A ratio, two numbers with one `/` between them: 0 to 1,024 over 1 to 1,024. None exactly where
+/// the word is no such ratio.
 pub fn read_ratio(word: &str) -> Option<Ratio>
     ensures value { result ≡ ratio_of word.now }
 {
@@ -102,8 +103,8 @@ pub fn read_ratio(word: &str) -> Option<Ratio>
     Ratio::new(num, den)
 }
 
-/// How letters are handed out: `prompt`, `last`, `single`, or by draws from a number. None exactly where the word is
-/// none of these.
+/// How letters are handed out: `prompt`, `last`, `single`, or by draws from a number. None exactly
+/// where the word is none of these.
 pub fn read_mail(word: &str) -> Option<Mail>
     ensures value { result ≡ mail_of word.now }
 {
@@ -118,7 +119,8 @@ pub fn read_mail(word: &str) -> Option<Mail>
     }
 }
 
-/// Whether the output is SDF: `sdf` says so, and `text` not. None exactly where the word is neither.
+/// Whether the output is SDF: `sdf` says so, and `text` not. None exactly where the word is
+/// neither.
 pub fn read_form(word: &str) -> Option<bool>
     ensures value { result ≡ form_of word.now }
 {

@@ -1,4 +1,5 @@
-// What the options of words say. A value that is not good is a fault, so it never comes to its default in a command.
+// What the options of words say. A value that is not good is a fault, so it never comes to its
+// default in a command.
 ghost use Rattle.std.specs.Prelude.{◌≡◌, ◌≤◌};
 ghost use Rattle.hot_model.specs.Limits.{max_ranks, max_leaf, max_bodies};
 ghost use Rattle.hot_words.specs.Settings.{ranks_given, ratio_given, softening_given, leaf_given, mail_given, sdf_given, report_given, bodies_given, seed_given, file_given};
@@ -108,7 +109,8 @@ pub fn seed(name: CommandName, words: &WordList) -> u64
     }
 }
 
-/// The file: the last word, where it is neither an option nor a value, and else `-`, standard input.
+/// The file: the last word, where it is neither an option nor a value, and else `-`, standard
+/// input.
 pub fn file(name: CommandName, words: &WordList) -> &str
     ensures value { result.now ≡ file_given name words.now }
 {

@@ -4,8 +4,8 @@ ghost use Rattle.hot_model.specs.Values.{CellValue};
 
 use hot_model::CellRec;
 
-/// The record of a cell in a list of records by ascending key; None exactly where it does not stand there. A binary
-/// search.
+/// The record of a cell in a list of records by ascending key; None exactly where it does not stand
+/// there. A binary search.
 pub fn find(recs: &[CellRec], key: u64) -> Option<CellRec>
     requires order { IsNonDecreasingBy (λ r. r.key) recs.now }
     ensures found { MatchOption result (All (λ r. r.key ≢ key) recs.now) (λ r. (r.key ≡ key) × ((i : ℕ) × (i < length recs.now) × (r ≡ slice_index_or recs.now i r))) }

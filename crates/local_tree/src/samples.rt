@@ -33,7 +33,8 @@ fn push_behind(bodies: &mut Vec<Body>, b: Body) -> Result<(), AllocError>
     Ok(())
 }
 
-/// The bodies at these places with these masses, in order: those that are in range, and stand behind the last.
+/// The bodies at these places with these masses, in order: those that are in range, and stand
+/// behind the last.
 pub fn piece_of(alloc: Global, rows: &[[u32; 4]]) -> Result<Vec<Body>, AllocError>
     requires { length rows.now ≤ max_bodies }
     ensures order { IfOk result (λ v. IsInOrder v.items) }

@@ -19,7 +19,8 @@ use morton_key::parent;
 use std::alloc::{AllocError, Global};
 use std::marker::Model;
 
-/// The tree of a piece. Clauses see the bodies of the piece, the nearest keys on either side of it and the leaf limit.
+/// The tree of a piece. Clauses see the bodies of the piece, the nearest keys on either side of it
+/// and the leaf limit.
 #[derive(Drop)]
 pub struct LocalTree {
     bodies: Vec<Body>,
@@ -93,8 +94,8 @@ impl LocalTree {
         Ok(tree)
     }
 
-    /// Puts into the table the records of the cells of more bodies than the leaf limit and of their children, level by
-    /// level and each level by ascending key, up to two records a body.
+    /// Puts into the table the records of the cells of more bodies than the leaf limit and of their
+    /// children, level by level and each level by ascending key, up to two records a body.
     fn fill(&mut self) -> Result<(), AllocError>
         ensures kept { self.new ≡ self.old }
     {
@@ -123,7 +124,8 @@ impl LocalTree {
         Ok(())
     }
 
-    /// Puts the record of a cell with bodies into the table, behind records of smaller keys, while there is room.
+    /// Puts the record of a cell with bodies into the table, behind records of smaller keys, while
+    /// there is room.
     fn keep(&mut self, key: u64) -> Result<(), AllocError>
         requires cell { IsCell key }
         ensures kept { self.new ≡ self.old }
@@ -157,10 +159,10 @@ impl LocalTree {
         Some(record_between(key, (to - from) as u32, before, after))
     }
 
-    /// The record of a cell over the bodies of the piece: their count and mass, and the sums of mass times coordinate. None
-    /// exactly where the piece has no body there. A cell in the table (those that a walk meets, up to two records a body)
-    /// is found by one binary search, any other by that and two more among the bodies, and no body is summed. It takes
-    /// no memory.
+    /// The record of a cell over the bodies of the piece: their count and mass, and the sums of
+    /// mass times coordinate. None exactly where the piece has no body there. A cell in the table
+    /// (those that a walk meets, up to two records a body) is found by one binary search, any other
+    /// by that and two more among the bodies, and no body is summed. It takes no memory.
     pub fn rec(&self, key: u64) -> Option<CellRec>
         requires cell { IsCell key }
         ensures value { result ≡ trees.record_at self.now.bodies key }
@@ -171,8 +173,8 @@ impl LocalTree {
         }
     }
 
-    /// Whether a cell is the piece's own: it has a body of the piece, and contains neither neighbouring key. It takes no
-    /// memory.
+    /// Whether a cell is the piece's own: it has a body of the piece, and contains neither
+    /// neighbouring key. It takes no memory.
     pub fn is_home(&self, key: u64) -> bool
         requires cell { IsCell key }
         ensures value { result ≡ homes.is_home self.now.bodies self.now.left self.now.right key }
@@ -184,8 +186,8 @@ impl LocalTree {
         keeps_out(key, self.left) && keeps_out(key, self.right)
     }
 
-    /// The body of the piece at a place, counted from 0, among those in a cell, in order; None exactly past the last. It
-    /// takes no memory.
+    /// The body of the piece at a place, counted from 0, among those in a cell, in order; None
+    /// exactly past the last. It takes no memory.
     pub fn body(&self, key: u64, i: u32) -> Option<Body>
         requires cell { IsCell key }
         ensures value { result ≡ slice_get (trees.inside self.now.bodies key) i }
@@ -195,9 +197,9 @@ impl LocalTree {
         own.get(i as usize).copied()
     }
 
-    /// What the piece answers for one of its own cells: the bodies, in order, where there are at most as many as the leaf
-    /// limit or the cell is of level 21, else the records of the children that have bodies, by ascending key. A refusal is
-    /// want of memory.
+    /// What the piece answers for one of its own cells: the bodies, in order, where there are at
+    /// most as many as the leaf limit or the cell is of level 21, else the records of the children
+    /// that have bodies, by ascending key. A refusal is want of memory.
     pub fn answer(&self, key: u64) -> Result<Answer, AllocError>
         requires cell { IsCell key }
         requires home { homes.is_home self.now.bodies self.now.left self.now.right key ≡ true }
@@ -226,8 +228,9 @@ impl LocalTree {
         Ok(list)
     }
 
-    /// The records of the piece's branches, the outermost of its own cells (Warren and Salmon, 1993), by ascending key, so
-    /// level by level. One pass over the bodies a level. A refusal is want of memory.
+    /// The records of the piece's branches, the outermost of its own cells (Warren and Salmon,
+    /// 1993), by ascending key, so level by level. One pass over the bodies a level. A refusal is
+    /// want of memory.
     pub fn branches(&self) -> Result<RecList, AllocError>
         ensures value { IfOk result (λ l. l ≡ homes.home_branches self.now.bodies self.now.left self.now.right) }
     {
@@ -238,7 +241,8 @@ impl LocalTree {
         Ok(list)
     }
 
-    /// Adds the records of the piece's branches at a level: body by body the cell that has it, where it is a new one.
+    /// Adds the records of the piece's branches at a level: body by body the cell that has it,
+    /// where it is a new one.
     fn add_level(&self, list: &mut RecList, level: u32) -> Result<(), AllocError>
         requires level { level ≤ max_level }
         ensures value { IfOk result (λ _. list.new ≡ list.old ++ map (trees.cell_record self.now.bodies) (filter (homes.is_home_branch self.now.bodies self.now.left self.now.right) (branches.cells_at self.now.bodies level))) }
@@ -252,7 +256,8 @@ impl LocalTree {
         Ok(())
     }
 
-    /// Adds the record of a cell with bodies, if it is a branch of the piece and not the cell before.
+    /// Adds the record of a cell with bodies, if it is a branch of the piece and not the cell
+    /// before.
     fn add_branch(&self, list: &mut RecList, cell: u64, before: u64) -> Result<(), AllocError>
         requires cell { IsCell cell }
         requires some { 0 < length (trees.inside self.now.bodies cell) }

@@ -1,4 +1,5 @@
-//! Records of cells as sums: none, one body, and one record added to another. Nothing here takes memory.
+//! Records of cells as sums: none, one body, and one record added to another. Nothing here takes
+//! memory.
 #![tactic(auto)]
 
 mod laws;

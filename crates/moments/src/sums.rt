@@ -15,7 +15,8 @@ pub fn empty(key: u64) -> CellRec
     CellRec::new(key, 0, 0, 0, 0, 0)
 }
 
-/// The record of a cell that has one body: count 1, the body's mass, and on each axis mass times coordinate.
+/// The record of a cell that has one body: count 1, the body's mass, and on each axis mass times
+/// coordinate.
 #[tactic(auto, using(crate::proofs::Hints::on_sums))]
 pub fn of_body(cell: u64, b: &Body) -> CellRec
     requires cell { IsCell cell }
@@ -33,7 +34,8 @@ pub fn of_body(cell: u64, b: &Body) -> CellRec
     )
 }
 
-/// Adds a record to another: the counts, the masses (together at most 2^40) and the three sums. The key stays.
+/// Adds a record to another: the counts, the masses (together at most 2^40) and the three sums. The
+/// key stays.
 #[tactic(auto, using(crate::proofs::Hints::on_sums))]
 pub fn add(to: &mut CellRec, from: &CellRec)
     requires few { to.old.count + from.now.count < 2 ^ 32 }

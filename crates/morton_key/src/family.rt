@@ -6,7 +6,8 @@ ghost use Rattle.hot_model.specs.Branches as branches;
 
 use hot_model::limits::MAX_LEVEL;
 
-/// The cell one level above: the key without its last digit. None exactly for the root, whose key is 1.
+/// The cell one level above: the key without its last digit. None exactly for the root, whose key
+/// is 1.
 #[tactic(auto, using(crate::proofs::Hints::on_parents))]
 pub fn parent(key: u64) -> Option<u64>
     requires cell { IsCell key }
@@ -18,8 +19,8 @@ pub fn parent(key: u64) -> Option<u64>
     if key == 1 { None } else { Some(key / 8) }
 }
 
-/// The daughter of a cell by its digit 0 to 7: the key with the digit behind it. None exactly for a cell of level 21,
-/// the deepest.
+/// The daughter of a cell by its digit 0 to 7: the key with the digit behind it. None exactly for a
+/// cell of level 21, the deepest.
 pub fn child(key: u64, digit: u32) -> Option<u64>
     requires cell { IsCell key }
     requires digit { digit < 8 }

@@ -1,5 +1,6 @@
-//! Morton keys: the key of a place, the cells that keys name, and the laws of keys that a hashed oct-tree rests on
-//! (Warren and Salmon, "A Parallel Hashed Oct-Tree N-Body Algorithm", 1993). Nothing here takes memory.
+//! Morton keys: the key of a place, the cells that keys name, and the laws of keys that a hashed
+//! oct-tree rests on (Warren and Salmon, "A Parallel Hashed Oct-Tree N-Body Algorithm", 1993).
+//! Nothing here takes memory.
 #![tactic(auto)]
 
 mod family;

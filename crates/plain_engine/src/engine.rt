@@ -8,8 +8,8 @@ use hot_model::{Acc3, Body, ForceEngine};
 use std::alloc::{AllocError, Global};
 use std::marker::Model;
 
-/// The reference engine: for each body one recursive walk that filters the bodies of each cell for its children. Every other
-/// engine answers the same forces.
+/// The reference engine: for each body one recursive walk that filters the bodies of each cell for
+/// its children. Every other engine answers the same forces.
 #[derive(Drop)]
 pub struct PlainEngine {
     ratio: Ratio,
@@ -30,9 +30,9 @@ impl Model for PlainEngine {
 }
 
 impl PlainEngine {
-    /// The engine of the opening ratio `ratio_num / ratio_den` (each at most 1024, the lower one at least 1), the
-    /// softening `eps` in fine units (1 to 2^28) and the leaf limit `leaf` (1 to 64); None exactly where a number is out
-    /// of its limit. It takes no memory.
+    /// The engine of the opening ratio `ratio_num / ratio_den` (each at most 1024, the lower one at
+    /// least 1), the softening `eps` in fine units (1 to 2^28) and the leaf limit `leaf` (1 to 64);
+    /// None exactly where a number is out of its limit. It takes no memory.
     pub fn new(ratio_num: u32, ratio_den: u32, eps: u32, leaf: u32) -> Option<PlainEngine>
         ensures in_limits { IsSome result ↔ ((ratio_num ≤ max_ratio) × (1 ≤ ratio_den) × (ratio_den ≤ max_ratio) × (1 ≤ eps) × (eps ≤ max_softening) × (1 ≤ leaf) × (leaf ≤ max_leaf)) }
         ensures settings { IfSome result (λ e. e ≡ record { num = ratio_num; den = ratio_den; eps = eps; leaf = leaf }) }

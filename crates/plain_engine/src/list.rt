@@ -26,7 +26,8 @@ fn push_row(bodies: &mut Vec<Body>, row: &[u32; 4]) -> Result<(), AllocError>
     }
 }
 
-/// The bodies at these places with these masses, those that are in range, each with its place in the list as its row.
+/// The bodies at these places with these masses, those that are in range, each with its place in
+/// the list as its row.
 pub fn list_of(alloc: Global, rows: &[[u32; 4]]) -> Result<Vec<Body>, AllocError>
     requires { length rows.now ≤ max_bodies }
     ensures rows { IfOk result (λ v. RowsCount v.items) }

@@ -40,7 +40,8 @@ fn known(alloc: Global, bodies: &[Body], cell: u64) -> Result<(Vec<Body>, CellRe
     Ok((kept, rec))
 }
 
-/// Adds the terms of a cell, out of a list that has all its bodies. Each cell hands its own bodies on to its children.
+/// Adds the terms of a cell, out of a list that has all its bodies. Each cell hands its own bodies
+/// on to its children.
 #[tactic(auto, using(crate::proofs::Hints::on_walk))]
 fn walk<V: Visit>(
     visit: &V,
@@ -79,8 +80,8 @@ fn walk<V: Visit>(
     Ok(())
 }
 
-/// What a visit has added up for body `b` after the recursive walk of the tree over `bodies` from the root, with the
-/// leaf limit `leaf` (Barnes and Hut, 1986). A refusal is want of memory.
+/// What a visit has added up for body `b` after the recursive walk of the tree over `bodies` from
+/// the root, with the leaf limit `leaf` (Barnes and Hut, 1986). A refusal is want of memory.
 pub fn fold_of<V: Visit>(
     visit: &V,
     alloc: Global,

@@ -6,8 +6,8 @@ use cell_mail::{Kind, Letter};
 use hot_model::KeyList;
 use std::alloc::{AllocError, Global};
 
-/// What a log keeps of a letter that was taken: its sender, its receiver, its kind and the keys of its items, in
-/// their order.
+/// What a log keeps of a letter that was taken: its sender, its receiver, its kind and the keys of
+/// its items, in their order.
 #[derive(Drop)]
 pub struct Note {
     pub from: u32,
@@ -16,8 +16,8 @@ pub struct Note {
     pub keys: KeyList,
 }
 
-/// One thing that happened on a wire: a letter was posted, of which the log has a copy; a letter was taken; or a
-/// round ended.
+/// One thing that happened on a wire: a letter was posted, of which the log has a copy; a letter
+/// was taken; or a round ended.
 #[derive(Drop)]
 pub enum Entry {
     Posted(Letter),

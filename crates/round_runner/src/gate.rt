@@ -1,7 +1,7 @@
 // What each rank enters before it steps.
 
-/// What each rank enters, by its number, before it steps. A gate may hold a rank until others are in; it tells nothing,
-/// and `enter` returns.
+/// What each rank enters, by its number, before it steps. A gate may hold a rank until others are
+/// in; it tells nothing, and `enter` returns.
 pub trait Gate: Sync {
     fn enter(&self, rank: u32);
 }

@@ -5,8 +5,8 @@ ghost use Rattle.round_runner.specs.Desk.{Desk, letters_in, rounds_in, begun, po
 use cell_mail::Letter;
 use hot_model::Mail;
 
-/// Where a wire is in a round: a letter may be taken, or one was taken and `more` is asked next, or no more are
-/// taken in this round.
+/// Where a wire is in a round: a letter may be taken, or one was taken and `more` is asked next, or
+/// no more are taken in this round.
 #[derive(Clone, Copy)]
 pub enum Turn {
     Free,
@@ -20,7 +20,8 @@ pub struct PostRefused {
     pub letter: Letter,
 }
 
-/// What carries letters from rank to rank. It gives out each posted letter once, in any order and at any time.
+/// What carries letters from rank to rank. It gives out each posted letter once, in any order and
+/// at any time.
 ///
 /// A wire keeps the letters that are pending, a log of what happened since the last `begin`, and the mail of that
 /// `begin`. It is a device without faults: want of memory in `post` is its one refusal. It tells under which mails it
@@ -29,12 +30,14 @@ pub trait Wire {
     /// What the wire holds.
     ghost desk: { Self → Desk };
 
-    /// Empties the log and makes the wire free, with this mail as its policy. Nothing is pending. It takes no memory.
+    /// Empties the log and makes the wire free, with this mail as its policy. Nothing is pending.
+    /// It takes no memory.
     fn begin(&mut self, mail: Mail)
         requires quiet { (desk self.old).pending ≡ [] }
         ensures fresh { desk self.new ≡ begun (desk self.old) mail };
 
-    /// Adds a letter to the pending ones, as the newest, and an entry to the log. It may be called at every turn.
+    /// Adds a letter to the pending ones, as the newest, and an entry to the log. It may be called
+    /// at every turn.
     ///
     /// The error is want of memory alone: it hands the letter back, and the wire is as it was.
     fn post(&mut self, letter: Letter) -> Result<(), PostRefused>
@@ -44,15 +47,16 @@ pub trait Wire {
     fn pending(&self) -> usize
         ensures count { result ≡ length (desk self.now).pending };
 
-    /// Takes any one letter out of the pending ones; None exactly where none is pending, and then nothing changes.
+    /// Takes any one letter out of the pending ones; None exactly where none is pending, and then
+    /// nothing changes.
     ///
     /// The log has an entry more, and `more` is asked next. It takes no memory.
     fn take(&mut self) -> Option<Letter>
         requires free { (desk self.old).turn ≡ Turn.Free }
         ensures taken_or_none { MatchOption result (((desk self.old).pending ≡ []) × (desk self.new ≡ desk self.old)) (λ l. Takes (desk self.old) l (desk self.new)) };
 
-    /// Whether another letter may be taken in this round: the wire's own choice, but always true under a mail for
-    /// which it is eager. It takes no memory.
+    /// Whether another letter may be taken in this round: the wire's own choice, but always true
+    /// under a mail for which it is eager. It takes no memory.
     fn more(&mut self) -> bool
         requires used { (desk self.old).turn ≡ Turn.Used }
         ensures turn { desk self.new ≡ turned (desk self.old) (if result then Turn.Free else Turn.Shut) }
@@ -60,8 +64,8 @@ pub trait Wire {
 
     /// Ends a round: the log has an entry more, and the wire is free. Pending letters stay.
     ///
-    /// Nothing is pending or the wire is shut, and no more rounds ended than letters were posted, so there is room for
-    /// the entry: it takes no memory.
+    /// Nothing is pending or the wire is shut, and no more rounds ended than letters were posted,
+    /// so there is room for the entry: it takes no memory.
     fn round(&mut self)
         requires over { ((desk self.old).pending ≡ []) ⊎ ((desk self.old).turn ≡ Turn.Shut) }
         requires room { rounds_in (desk self.old).log ≤ letters_in (desk self.old).log }

@@ -7,8 +7,8 @@ use crate::layout::{HeaderError, Layout};
 use crate::reader::HeaderReader;
 use std::alloc::Global;
 
-/// The layout of the header of an input that is there in pieces, or why there is none: the verdict of the
-/// bytes joined, over every cutting.
+/// The layout of the header of an input that is there in pieces, or why there is none: the verdict
+/// of the bytes joined, over every cutting.
 pub fn read_pieces(alloc: Global, pieces: &[&[u8]]) -> Result<Layout, HeaderError>
     ensures value { Gives result (verdict (joined pieces.now)) }
 {

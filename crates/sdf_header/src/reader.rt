@@ -25,8 +25,9 @@ pub enum Fed {
 
 /// A reader of the header of a body file, fed in pieces as they come.
 ///
-/// It is seen as the bytes that it keeps: all bytes so far, up to one that decides where the header ends or
-/// that there is none. It holds at most 65,536 bytes, and looks at each byte a bounded number of times.
+/// It is seen as the bytes that it keeps: all bytes so far, up to one that decides where the header
+/// ends or that there is none. It holds at most 65,536 bytes, and looks at each byte a bounded
+/// number of times.
 #[derive(Drop)]
 pub struct HeaderReader {
     alloc: Global,
@@ -105,8 +106,8 @@ impl HeaderReader {
         answer_of(found, taken)
     }
 
-    /// The layout of the header whose pieces were fed, or the fault that refuses it: of the faults that its
-    /// bytes show, the first in the order of [`HeaderFault`].
+    /// The layout of the header whose pieces were fed, or the fault that refuses it: of the faults
+    /// that its bytes show, the first in the order of [`HeaderFault`].
     pub fn finish(self) -> Result<Layout, HeaderError>
         ensures value { Gives result (verdict self) }
         ensures facts { IfOk result (λ layout. IsLayout layout) }

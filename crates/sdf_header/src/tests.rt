@@ -40,7 +40,8 @@ fn col(kind: Whole, offset: u32) -> Col {
     Col { kind, offset }
 }
 
-/// The verdict of bytes that come in pieces of a size, where the answer at the header's end is the header's length.
+/// The verdict of bytes that come in pieces of a size, where the answer at the header's end is the
+/// header's length.
 fn fed(alloc: Global, bytes: &[u8], size: usize) -> Result<Layout, HeaderError> {
     let Ok(mut reader) = HeaderReader::new(alloc) else {
         return Err(HeaderError::Memory);
@@ -349,7 +350,8 @@ fn int_column(offset: u32) -> Col {
     }
 }
 
-/// The layout of generated bodies, where the header has so many bytes and no number of rows is stated.
+/// The layout of generated bodies, where the header has so many bytes and no number of rows is
+/// stated.
 fn plain(header_len: u32) -> Shape {
     Shape {
         header_len,
@@ -480,7 +482,8 @@ fn limits(rt: HostRuntime) -> Result<(), Fail> {
         b"\";\n# SDF-EOH\n",
     )?;
     assert!(rt; is_refused(alloc, &text, HeaderFault::Syntax(17)));
-    // Headers of 65,536 bytes and of one more, and inputs of 65,535 and 65,536 bytes without an end.
+    // Headers of 65,536 bytes and of one more, and inputs of 65,535 and 65,536 bytes without an
+    // end.
     let long = padded(alloc, b"# SDF", b' ', 65_520, b"\n# SDF-EOH\nrows")?;
     assert!(rt; is_refused(alloc, &long, HeaderFault::NoStruct));
     let long = padded(alloc, b"# SDF", b' ', 65_521, b"\n# SDF-EOH\nrows")?;
@@ -491,7 +494,8 @@ fn limits(rt: HostRuntime) -> Result<(), Fail> {
     assert!(rt; is_refused(alloc, &open, HeaderFault::NoEnd));
     let open = padded(alloc, b"# SDF", b'\n', 65_531, b"")?;
     assert!(rt; is_refused(alloc, &open, HeaderFault::TooLong));
-    // A column with 64 columns before it, where the names take two bytes each: the last one begins at 339.
+    // A column with 64 columns before it, where the names take two bytes each: the last one begins
+    // at 339.
     let mut many = Vec::new(alloc);
     many.extend_from_slice(b"# SDF\nstruct {char ")?;
     for first in b"abcdefgh" {

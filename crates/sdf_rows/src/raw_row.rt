@@ -2,8 +2,9 @@
 
 /// One row of a body file as the whole numbers that it gives, before any test of their ranges.
 ///
-/// Each number fits 64 bits, signed or unsigned. Without a column `mass` holds the layout's default, `ident` the
-/// row's number from 0, and `work` 1. A velocity is None where the layout has no whole column for it.
+/// Each number fits 64 bits, signed or unsigned. Without a column `mass` holds the layout's
+/// default, `ident` the row's number from 0, and `work` 1. A velocity is None where the layout has
+/// no whole column for it.
 #[derive(Clone, Copy, Debug, PartialEq, Eq)]
 pub struct RawRow {
     pub x: i128,
@@ -20,7 +21,8 @@ pub struct RawRow {
 /// Why the bytes behind a header are not its rows.
 #[derive(Clone, Copy, Debug, PartialEq, Eq)]
 pub enum RowFault {
-    /// The input ends within this row, or before it where the stated number of rows is not reached (B1).
+    /// The input ends within this row, or before it where the stated number of rows is not reached
+    /// (B1).
     Truncated { row: u64 },
     /// A byte follows the last of a stated number of rows (B2).
     Trailing,

@@ -12,8 +12,9 @@ use std::marker::Model;
 
 /// A reader of the rows behind a header, in any pieces.
 ///
-/// It takes no memory: it keeps the bytes of one row. It is seen as its layout, how many rows it gave, the bytes of
-/// the row that is not whole, and whether a byte came behind the last row. Rows are counted up to 2^64 - 1.
+/// It takes no memory: it keeps the bytes of one row. It is seen as its layout, how many rows it
+/// gave, the bytes of the row that is not whole, and whether a byte came behind the last row. Rows
+/// are counted up to 2^64 - 1.
 #[derive(Drop)]
 pub struct Rows {
     layout: Layout,
@@ -50,12 +51,13 @@ impl Rows {
         }
     }
 
-    /// Takes bytes of the next piece of the input, up to the end of the current row, and gives that row where it
-    /// is whole. The bytes that were not taken begin the next piece. A row that lies whole in the piece is read
-    /// where it lies; of another one each byte is copied once.
+    /// Takes bytes of the next piece of the input, up to the end of the current row, and gives that
+    /// row where it is whole. The bytes that were not taken begin the next piece. A row that lies
+    /// whole in the piece is read where it lies; of another one each byte is copied once.
     ///
-    /// Whatever the pieces, the rows given are the rows of the bytes joined. The fault is `Trailing`, exactly where
-    /// a count is stated and all its rows were given, and comes again at each call.
+    /// Whatever the pieces, the rows given are the rows of the bytes joined. The fault is
+    /// `Trailing`, exactly where a count is stated and all its rows were given, and comes again at
+    /// each call.
     pub fn feed(&mut self, piece: &[u8]) -> Result<RowStep, RowFault>
         requires some { 1 ≤ length piece.now }
         ensures answer { (bytes : List ℕ) → IsBehind self.old bytes → result ≡ answer_to self.old.layout bytes piece.now }
@@ -88,8 +90,8 @@ impl Rows {
 
     /// The number of rows, where the input ends here.
     ///
-    /// The fault is `Truncated`, exactly where the bytes end within that row or before a stated count is reached,
-    /// or the fault that `feed` gave.
+    /// The fault is `Truncated`, exactly where the bytes end within that row or before a stated
+    /// count is reached, or the fault that `feed` gave.
     pub fn finish(&self) -> Result<u64, RowFault>
         ensures ending { (bytes : List ℕ) → IsBehind self.now bytes → result ≡ ending self.now.layout bytes }
     {

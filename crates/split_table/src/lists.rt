@@ -11,7 +11,8 @@ use local_tree::LocalTree;
 use std::alloc::{AllocError, Global};
 use work_split::Pieces;
 
-/// With this leaf limit no cell is parted, so the tree of a piece keeps no records of cells that nobody asks for.
+/// With this leaf limit no cell is parted, so the tree of a piece keeps no records of cells that
+/// nobody asks for.
 const WHOLE: u32 = 4_294_967_295;
 
 /// The bodies of a rank, in key order.

@@ -14,9 +14,9 @@ use std::alloc::{AllocError, Global};
 use std::marker::Model;
 use work_split::split;
 
-/// What a set of bodies that is split over ranks shows: the share of each rank, in their order; the branches of all
-/// ranks, by ascending key, each with its rank and its record over all bodies; and the records of the top cells, by
-/// ascending key.
+/// What a set of bodies that is split over ranks shows: the share of each rank, in their order; the
+/// branches of all ranks, by ascending key, each with its rank and its record over all bodies; and
+/// the records of the top cells, by ascending key.
 #[derive(Drop)]
 pub struct SplitTable {
     shares: Vec<Share>,
@@ -33,8 +33,8 @@ impl Model for SplitTable {
 }
 
 impl SplitTable {
-    /// The table of a set that is split over 1 to 64 ranks by its work weights (Warren and Salmon, 1993). A refusal is want
-    /// of memory.
+    /// The table of a set that is split over 1 to 64 ranks by its work weights (Warren and Salmon,
+    /// 1993). A refusal is want of memory.
     pub fn of(alloc: Global, set: &Ordered, ranks: u32) -> Result<SplitTable, AllocError>
         requires one { 1 ≤ ranks }
         requires many { ranks ≤ max_ranks }

@@ -10,7 +10,8 @@ use std::test::Fail;
 /// A place, a mass and a work weight.
 type Row = ([i128; 3], i128, i128);
 
-/// The bodies of these rows, in key order. The cube has 21 bits, so that a coordinate counts 256 fine units.
+/// The bodies of these rows, in key order. The cube has 21 bits, so that a coordinate counts 256
+/// fine units.
 fn set_of(rt: &impl Abort, alloc: Global, rows: &[Row]) -> Ordered {
     let cube = Cube {
         bits: 21,
@@ -48,8 +49,8 @@ struct Case<'a> {
 
 const TWO_FAR_APART: [Row; 2] = [([0, 0, 0], 1, 1), ([1_048_576, 0, 0], 2, 1)];
 
-/// The small tree of docs/MODEL.md: by key the bodies stand in the cells 8, 72, 79, 12 and 15. The weights below them are 0,
-/// 1, 3, 4 and 7 of 9, so their ranks are 0, 0, 1, 1 and 2.
+/// The small tree of docs/MODEL.md: by key the bodies stand in the cells 8, 72, 79, 12 and 15. The
+/// weights below them are 0, 1, 3, 4 and 7 of 9, so their ranks are 0, 0, 1, 1 and 2.
 const SMALL_TREE: [Row; 5] = [
     ([1_048_576, 1_048_576, 1_048_576], 5, 2),
     ([0, 0, 1_048_576], 2, 2),

@@ -12,8 +12,9 @@ use hot_model::Body;
 use std::alloc::{AllocError, Global};
 use std::marker::Model;
 
-/// The split of a set of bodies over ranks: for each rank the places of its bodies in the list in key order, and their
-/// weight. Clauses see where each piece starts, with the end of the last behind them, and the weights.
+/// The split of a set of bodies over ranks: for each rank the places of its bodies in the list in
+/// key order, and their weight. Clauses see where each piece starts, with the end of the last
+/// behind them, and the weights.
 #[derive(Drop)]
 pub struct Pieces {
     starts: Vec<usize>,
@@ -31,9 +32,10 @@ impl Model for Pieces {
     ghost invariant = { λ p. length p.starts.items ≡ suc (length p.weights.items) };
 }
 
-/// Splits a set over 1 to 64 ranks. The rank of a body is `min(ranks - 1, floor(P * ranks / W))`, where `W` is the sum of
-/// all weights and `P` that of all bodies with a smaller key; where `W` is 0 each body counts as 1. So bodies of one key
-/// share a rank, and ranks never fall along the keys. Time is linear in the bodies.
+/// Splits a set over 1 to 64 ranks. The rank of a body is `min(ranks - 1, floor(P * ranks / W))`,
+/// where `W` is the sum of all weights and `P` that of all bodies with a smaller key; where `W` is
+/// 0 each body counts as 1. So bodies of one key share a rank, and ranks never fall along the keys.
+/// Time is linear in the bodies.
 pub fn split(alloc: Global, set: &Ordered, ranks: u32) -> Result<Pieces, AllocError>
     requires one { 1 ≤ ranks }
     requires many { ranks ≤ max_ranks }
@@ -80,8 +82,8 @@ fn least_key(bodies: &[Body]) -> Option<u64>
 }
 
 impl Pieces {
-    /// The places of a rank's bodies in the list in key order, from and to (exclusive). The first is the number of bodies
-    /// of lower ranks, also for a rank without bodies.
+    /// The places of a rank's bodies in the list in key order, from and to (exclusive). The first
+    /// is the number of bodies of lower ranks, also for a rank without bodies.
     pub fn range(&self, q: u32) -> (usize, usize)
         requires rank { q < splits.ranks_of self.now }
         ensures value { result ≡ (slice_index self.now.starts q, slice_index self.now.starts (q + 1)) }
@@ -91,7 +93,8 @@ impl Pieces {
         (self.starts[q], self.starts[q + 1])
     }
 
-    /// The weight of a rank's bodies: the sum of their work weights, or their number where all weights are 0.
+    /// The weight of a rank's bodies: the sum of their work weights, or their number where all
+    /// weights are 0.
     pub fn weight(&self, q: u32) -> u64
         requires rank { q < splits.ranks_of self.now }
         ensures value { result ≡ slice_index self.now.weights q }
@@ -100,7 +103,8 @@ impl Pieces {
         self.weights[q as usize]
     }
 
-    /// The greatest key of a lower rank and the least key of a higher rank, in the set that was split.
+    /// The greatest key of a lower rank and the least key of a higher rank, in the set that was
+    /// split.
     pub fn neighbours(&self, set: &Ordered, q: u32) -> (Option<u64>, Option<u64>)
         requires rank { q < splits.ranks_of self.now }
         requires same { self.now ≡ splits.pieces_of set.now (splits.ranks_of self.now) }

@@ -32,8 +32,8 @@ fn rank_at(below: u64, whole: u64, ranks: u32) -> usize
     }
 }
 
-/// The count and weight of each rank, by one pass over the bodies in key order with the running sum of the weights: the
-/// rank changes only where the key does, so bodies of one key stay together.
+/// The count and weight of each rank, by one pass over the bodies in key order with the running sum
+/// of the weights: the rank changes only where the key does, so bodies of one key stay together.
 pub fn tally(
     alloc: Global,
     bodies: &[Body],
