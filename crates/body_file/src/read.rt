@@ -20,10 +20,11 @@ use std::alloc::Global;
 /// to 4,194,304 in the file's own unit, a work weight 0 to 2^32 - 1, and an ident fits 64 bits,
 /// signed or unsigned.
 ///
-/// `Broken` comes exactly where `open` or a read fails. `Refused` comes with the first fault in the order of the file: that
-/// of the header, then those of the rows, each with the tests of `BodyFault` in their order, then how the rows end. Each
-/// fault that the bytes so far decide is answered before the next read, and no fault is answered that they do not decide.
-/// `Memory` may come at any growth.
+/// `Broken` comes exactly where `open` or a read fails. `Refused` comes with the first fault in the
+/// order of the file: that of the header, then those of the rows, each with the tests of
+/// `BodyFault` in their order, then how the rows end. Each fault that the bytes so far decide is
+/// answered before the next read, and no fault is answered that they do not decide. `Memory` may
+/// come at any growth.
 ///
 /// A read asks for at most 4,096 bytes. What is kept beside the bodies is that piece, the header
 /// until it ends, and a row that goes on. At most 268,506,111 bytes are taken of a source that

@@ -19,7 +19,7 @@ use Rattle.moments.specs.Sums.{joined}
 use Rattle.branch_merge.specs.declared.listed.Listed.{Listed}
 use Rattle.branch_merge.specs.Listing.{records}
 use Rattle.branch_merge.specs.Tops.{has_listed, children_of}
-use Rattle.branch_merge.specs.Merged.{AreCells, AreLight, sums_of}
+use Rattle.branch_merge.specs.Merged.{AreCells, AreBelow, AreLight, sums_of}
 
 -- one more record added
 pub sums_more : (c : ℕ) (xs : List Listed) (i : ℕ) (x : Listed) (r s : CellValue) → i < length xs → x ≡ get_or xs i x → r ≡ sums_of c (take i xs) → s ≡ joined r x.rec → s ≡ sums_of c (take (i + 1) xs)
@@ -27,7 +27,8 @@ sums_more c xs i x r s l at e f =
     let more : (g : Listed → ℕ) → sum_by g (take i xs) + g x ≡ sum_by g (take (i + 1) xs) = λ g. sym (sum_by_more g xs i x l ∙ ap (λ (y : Listed). sum_by g (take i xs) + g y) (sym at)) in
     f
     ∙ (ap (λ (q : CellValue). joined q x.rec) e
-    ∙ same_cell c _ _ _ _ _ _ _ _ _ _ (more (λ y. y.rec.count)) (more (λ y. y.rec.mass)) (more (λ y. y.rec.sx)) (more (λ y. y.rec.sy)) (more (λ y. y.rec.sz)))
+    ∙ same_cell _ _ refl (more (λ y. y.rec.count)) (more (λ y. y.rec.mass))
+    (more (λ y. y.rec.sx)) (more (λ y. y.rec.sy)) (more (λ y. y.rec.sz)) (more (λ y. y.rec.sxx)) (more (λ y. y.rec.syy)) (more (λ y. y.rec.szz)) (more (λ y. y.rec.sxy)) (more (λ y. y.rec.sxz)) (more (λ y. y.rec.syz)))
 
 -- it is within the limits
 pub adds_few : (c : ℕ) (xs : List Listed) (i : ℕ) (x : Listed) (r : CellValue) → AreLight xs → i < length xs → x ≡ get_or xs i x → r ≡ sums_of c (take i xs) → r.count + x.rec.count < 2 ^ 32
@@ -41,6 +42,13 @@ adds_light c xs i x r h l at e =
     let n : r.mass ≡ sum_by (λ (y : Listed). y.rec.mass) (take i xs) = ap (λ (q : CellValue). q.mass) e in
     let m : x.rec.mass ≡ (get_or xs i x).rec.mass = ap (λ (y : Listed). y.rec.mass) at in
     omega (arith, n, m, sum_by_more_le (λ (y : Listed). y.rec.mass) xs i x l, h.light)
+
+-- the record lies in the cell
+pub adds_below : (c : ℕ) (xs : List Listed) (i : ℕ) (x : Listed) (r : CellValue) → AreBelow c xs → i < length xs → x ≡ get_or xs i x → r ≡ sums_of c (take i xs) → covers r.key x.rec.key ≡ true
+adds_below c xs i x r h l at e =
+    let n : r.key ≡ c = ap (λ (q : CellValue). q.key) e in
+    let m : x.rec.key ≡ (get_or xs i x).rec.key = ap (λ (y : Listed). y.rec.key) at in
+    rw (n, m) (h i x l).0
 
 -- a part is within the limits of the whole
 sum_part : (f : Listed → ℕ) (p : Listed → Bool) (xs : List Listed) → sum_by f (filter p xs) ≤ sum_by f xs
@@ -74,8 +82,10 @@ sum_records f c (x ∷ xs) = by_test (covers c x.rec.key) (sum_records f c xs)
 
 pub sums_joined : (c : ℕ) (xs : List Listed) → sums_of c (filter (λ x. covers c x.rec.key) xs) ≡ joined_record c (records xs)
 sums_joined c xs =
-    same_cell c _ _ _ _ _ _ _ _ _ _
-    (sum_records (λ r. r.count) c xs) (sum_records (λ r. r.mass) c xs) (sum_records (λ r. r.sx) c xs) (sum_records (λ r. r.sy) c xs) (sum_records (λ r. r.sz) c xs)
+    same_cell _ _ refl (sum_records (λ r. r.count) c xs) (sum_records (λ r. r.mass) c xs)
+    (sum_records (λ r. r.sx) c xs) (sum_records (λ r. r.sy) c xs) (sum_records (λ r. r.sz) c xs)
+    (sum_records (λ r. r.sxx) c xs) (sum_records (λ r. r.syy) c xs) (sum_records (λ r. r.szz) c xs)
+    (sum_records (λ r. r.sxy) c xs) (sum_records (λ r. r.sxz) c xs) (sum_records (λ r. r.syz) c xs)
 
 -- some element passes a test exactly where the filter keeps one
 pub some_kept : {X : Type 0} (p : X → Bool) (xs : List X) → 0 < length (filter p xs) → list_any p xs ≡ true

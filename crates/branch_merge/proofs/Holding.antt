@@ -119,7 +119,7 @@ found_top xs cells key cell h e m =
     (subst (IsTopOf xs) at ((h.tops.all (get_or h.keys m.0 0)).0 (Contains-get_or h.keys m.0 0 l)), subst (λ (k : ℕ). IsTopCell xs k cell) at made)
 
 nowhere : TopCell
-nowhere = record { rec = record { key = 0; count = 0; mass = 0; sx = 0; sy = 0; sz = 0 }; children = record { items = [] } }
+nowhere = record { rec = record { key = 0; count = 0; mass = 0; sx = 0; sy = 0; sz = 0; sxx = 0; syy = 0; szz = 0; sxy = 0; sxz = 0; syz = 0 }; children = record { items = [] } }
 
 pub no_top : (xs : List Listed) (cells : List TopCell) (key : ℕ) → AreTopCells xs cells → All (λ c. key_of_top c ≡ key → ⊥) cells → IsTopOf xs key → ⊥
 no_top xs cells key h none t =

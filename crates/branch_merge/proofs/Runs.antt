@@ -77,7 +77,7 @@ pub record IsRun (xs : List Listed) (c from to : ℕ) : Type 0 where
   pub within : to ≤ length xs
 
 nothing : Listed
-nothing = record { rank = 0; rec = record { key = 0; count = 0; mass = 0; sx = 0; sy = 0; sz = 0 } }
+nothing = record { rank = 0; rec = record { key = 0; count = 0; mass = 0; sx = 0; sy = 0; sz = 0; sxx = 0; syy = 0; szz = 0; sxy = 0; sxz = 0; syz = 0 } }
 
 run_ascends : (xs : List Listed) (c from to : ℕ) → IsCell c → IsCountTo xs (first_key c - 1) from → IsCountTo xs (last_key c) to → from ≤ to
 run_ascends xs c from to i f t =

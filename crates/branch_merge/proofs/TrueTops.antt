@@ -42,12 +42,18 @@ true_tops w xs c g a = (to, from)
 -- a joined record does not depend on the order
 joined-kept : (c : ℕ) (rs ss : List CellValue) → IsPermutation rs ss → joined_record c ss ≡ joined_record c rs
 joined-kept c rs ss h =
-    same_cell c _ _ _ _ _ _ _ _ _ _
+    same_cell _ _ refl
     (sum-kept (λ r. r.count) (λ r. covers c r.key) rs ss h)
     (sum-kept (λ r. r.mass) (λ r. covers c r.key) rs ss h)
     (sum-kept (λ r. r.sx) (λ r. covers c r.key) rs ss h)
     (sum-kept (λ r. r.sy) (λ r. covers c r.key) rs ss h)
     (sum-kept (λ r. r.sz) (λ r. covers c r.key) rs ss h)
+    (sum-kept (λ r. r.sxx) (λ r. covers c r.key) rs ss h)
+    (sum-kept (λ r. r.syy) (λ r. covers c r.key) rs ss h)
+    (sum-kept (λ r. r.szz) (λ r. covers c r.key) rs ss h)
+    (sum-kept (λ r. r.sxy) (λ r. covers c r.key) rs ss h)
+    (sum-kept (λ r. r.sxz) (λ r. covers c r.key) rs ss h)
+    (sum-kept (λ r. r.syz) (λ r. covers c r.key) rs ss h)
 
 -- the record of a top cell is joined from the listed ones
 true_sums : (w : World) (xs : List Listed) (c : ℕ) → IsGood w → AreTrue w xs → IsTop w c → joined_record c (records xs) ≡ cell_record w.bodies c

@@ -37,6 +37,12 @@ sums_of c xs = record {
   sx = sum_by (λ x. x.rec.sx) xs;
   sy = sum_by (λ x. x.rec.sy) xs;
   sz = sum_by (λ x. x.rec.sz) xs;
+  sxx = sum_by (λ x. x.rec.sxx) xs;
+  syy = sum_by (λ x. x.rec.syy) xs;
+  szz = sum_by (λ x. x.rec.szz) xs;
+  sxy = sum_by (λ x. x.rec.sxy) xs;
+  sxz = sum_by (λ x. x.rec.sxz) xs;
+  syz = sum_by (λ x. x.rec.syz) xs;
 }
 
 -- cells in Morton order

@@ -27,6 +27,7 @@ pub struct TopCell {
 fn added_up(cell: u64, own: &[Listed]) -> CellRec
     requires cell { IsCell cell }
     requires light { AreLight own.now }
+    requires below { AreBelow cell own.now }
     ensures value { result ≡ sums_of cell own.now }
 {
     let mut rec = moments::empty(cell);

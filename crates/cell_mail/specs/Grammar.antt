@@ -56,7 +56,7 @@ fits_leaf k n = leb n max_leaf || eqb (level k) max_level
 
 -- a record that may be sent
 pub record IsRecord (c : CellValue) : Type 0 where
-  pub facts : IsCellRecord c.key c.count c.mass c.sx c.sy c.sz
+  pub facts : IsCellRecord c
   pub some : 1 ≤ c.count
   pub few : c.count ≤ max_bodies
 

@@ -1,9 +1,9 @@
 -- Reading a letter from left to right: a value and the bytes after it, or none.
-use Rattle.std.specs.Prelude.{ℕ, zero, suc, ◌≡◌, ◌+◌, ◌-◌, ◌*◌, ◌/◌, ◌^◌, ◌<◌, Bool, false, ltb, leb, eqb, ◌&&◌, ◌||◌, if◌then◌else◌, List, [], ◌∷◌, length, map, take, drop, Option, Some, None, Result, Ok, Err}
+use Rattle.std.specs.Prelude.{ℕ, zero, suc, ◌≡◌, ◌+◌, ◌-◌, ◌*◌, ◌/◌, ◌^◌, ◌<◌, Bool, false, ltb, leb, eqb, ◌&&◌, ◌||◌, if◌then◌else◌, List, [], ◌∷◌, length, map, take, drop, slice_index, Option, Some, None, Result, Ok, Err}
 use Rattle.std.specs.List.{AllByRecursion, list_all}
 use Rattle.hot_model.specs.Limits.{fine_bits, max_level, max_bodies, max_body_mass, max_all_mass}
-use Rattle.hot_model.specs.Values.{BodyValue, CellValue}
-use Rattle.hot_model.specs.Keys.{contains}
+use Rattle.hot_model.specs.Values.{BodyValue, CellValue, cell_of}
+use Rattle.hot_model.specs.Keys.{contains, corner, extent}
 use Rattle.hot_model.specs.declared.list.Answer.{Answer}
 use Rattle.hot_model.specs.declared.list.Answer.TheVariants.{Children, Bodies}
 use Rattle.hot_model.specs.declared.list.Answered.{Answered}
@@ -12,7 +12,8 @@ use Rattle.cell_mail.specs.declared.content.Content.TheVariants as content
 use Rattle.cell_mail.specs.declared.content.LetterError.{LetterError}
 use Rattle.cell_mail.specs.declared.content.LetterError.TheVariants as errors
 use Rattle.cell_mail.specs.Grammar.{IsRecord, IsSent, IsBelowRoot, IsItem, ascend, bodies_ascend, apart, has_parent, fits_leaf}
-use Rattle.cell_mail.specs.Sizes.{version, mark_size, count_size, count_end, key_size, mass_size, sum_size, field_size, max_children}
+use Rattle.cell_mail.specs.Spelling.{sums_of}
+use Rattle.cell_mail.specs.Sizes.{version, mark_size, count_size, count_end, key_size, mass_size, sum_size, sums_count, field_size, max_children}
 
 -- what a reader gives, read on, or none
 infixl 10 ◌>>=◌
@@ -60,10 +61,34 @@ is_cell k = cell_below (suc max_level) k
 abbrev pub is_below_root : ℕ → Bool
 is_below_root k = is_cell k && leb 8 k
 
+-- whether a sum may be one of mass times a coordinate from k to k + w
+abbrev pub is_first : ℕ → ℕ → ℕ → ℕ → Bool
+is_first mass k w s = leb (mass * k) s && leb s (mass * (k + w))
+
+-- whether a sum may be one of mass times two coordinates, from k and from l on, whose own sums are s and t
+unfoldable pub is_second : ℕ → ℕ → ℕ → ℕ → ℕ → ℕ → ℕ → Bool
+is_second mass k l w s t q = leb (k * t + l * s) (q + mass * (k * l)) && leb (q + mass * (k * l)) (k * t + l * s + mass * (w * w))
+
+-- whether the first three sums may be those of bodies in the cell
+unfoldable pub firsts_fit : ℕ → ℕ → List ℕ → Bool
+firsts_fit key mass s =
+    is_first mass (corner key).x (extent key) (slice_index s 0)
+    && (is_first mass (corner key).y (extent key) (slice_index s 1) && is_first mass (corner key).z (extent key) (slice_index s 2))
+
+-- whether the other six may be
+unfoldable pub seconds_fit : ℕ → ℕ → List ℕ → Bool
+seconds_fit key mass s =
+    is_second mass (corner key).x (corner key).x (extent key) (slice_index s 0) (slice_index s 0) (slice_index s 3)
+    && (is_second mass (corner key).y (corner key).y (extent key) (slice_index s 1) (slice_index s 1) (slice_index s 4)
+    && (is_second mass (corner key).z (corner key).z (extent key) (slice_index s 2) (slice_index s 2) (slice_index s 5)
+    && (is_second mass (corner key).x (corner key).y (extent key) (slice_index s 0) (slice_index s 1) (slice_index s 6)
+    && (is_second mass (corner key).x (corner key).z (extent key) (slice_index s 0) (slice_index s 2) (slice_index s 7)
+    && is_second mass (corner key).y (corner key).z (extent key) (slice_index s 1) (slice_index s 2) (slice_index s 8)))))
+
 -- whether a record may be sent
 unfoldable pub is_record : CellValue → Bool
 is_record c = is_cell c.key && (leb 1 c.count && (leb c.count max_bodies && (leb c.count c.mass && (leb c.mass max_all_mass
-    && (leb c.sx (c.mass * (2 ^ fine_bits - 1)) && (leb c.sy (c.mass * (2 ^ fine_bits - 1)) && leb c.sz (c.mass * (2 ^ fine_bits - 1))))))))
+    && (firsts_fit c.key c.mass (sums_of c) && seconds_fit c.key c.mass (sums_of c))))))
 
 -- whether a body may be sent
 unfoldable pub is_sent : BodyValue → Bool
@@ -95,13 +120,23 @@ ItemsFit (content.Answers xs) = (length xs < count_end) × AllByRecursion IsItem
 unfoldable pub key_at : Reader ℕ
 key_at bytes = number_at key_size bytes >>= λ k. checked (is_below_root k.0) k.0 k.1
 
+-- so many items, one behind the other
+unfoldable pub many : {X : Type 0} → Reader X → ℕ → Reader (List X)
+many item zero bytes = Some ([], bytes)
+many item (suc n) bytes = item bytes >>= λ first. many item n first.1 >>= λ others. Some (first.0 ∷ others.0, others.1)
+
+-- the record with these nine sums
+abbrev pub with_sums : ℕ → ℕ → ℕ → List ℕ → CellValue
+with_sums key count mass s =
+    cell_of key count mass (slice_index s 0) (slice_index s 1) (slice_index s 2) (slice_index s 3) (slice_index s 4) (slice_index s 5)
+    (slice_index s 6) (slice_index s 7) (slice_index s 8)
+
 -- a record
 unfoldable pub record_at : Reader CellValue
 record_at bytes =
     number_at key_size bytes >>= λ key. number_at count_size key.1 >>= λ count. number_at mass_size count.1 >>= λ mass.
-    number_at sum_size mass.1 >>= λ sx. number_at sum_size sx.1 >>= λ sy. number_at sum_size sy.1 >>= λ sz.
-    checked (is_record (record { key = key.0; count = count.0; mass = mass.0; sx = sx.0; sy = sy.0; sz = sz.0 }))
-    (record { key = key.0; count = count.0; mass = mass.0; sx = sx.0; sy = sy.0; sz = sz.0 }) sz.1
+    many (number_at sum_size) sums_count mass.1 >>= λ sums.
+    checked (is_record (with_sums key.0 count.0 mass.0 sums.0)) (with_sums key.0 count.0 mass.0 sums.0) sums.1
 
 -- a body
 unfoldable pub body_at : Reader BodyValue
@@ -110,11 +145,6 @@ body_at bytes =
     number_at field_size z.1 >>= λ mass. number_at field_size mass.1 >>= λ row.
     checked (is_sent (record { x = x.0; y = y.0; z = z.0; mass = mass.0; row = row.0 }))
     (record { x = x.0; y = y.0; z = z.0; mass = mass.0; row = row.0 }) row.1
-
--- so many items, one behind the other
-unfoldable pub many : {X : Type 0} → Reader X → ℕ → Reader (List X)
-many item zero bytes = Some ([], bytes)
-many item (suc n) bytes = item bytes >>= λ first. many item n first.1 >>= λ others. Some (first.0 ∷ others.0, others.1)
 
 -- a number, and so many items
 unfoldable pub counted_at : {X : Type 0} → Reader X → Reader (List X)

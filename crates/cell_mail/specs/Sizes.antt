@@ -3,7 +3,7 @@ use Rattle.std.specs.Prelude.{ℕ, ◌*◌, ◌^◌}
 
 -- the version of letters
 abbrev pub version : ℕ
-version = 1
+version = 2
 
 -- how many bytes the version, a kind and a tag have
 abbrev pub mark_size : ℕ
@@ -28,6 +28,10 @@ mass_size = 8
 -- how many bytes each sum of a record has
 abbrev pub sum_size : ℕ
 sum_size = 16
+
+-- how many sums a record has
+abbrev pub sums_count : ℕ
+sums_count = 9
 
 -- how many bytes each number of a body has
 abbrev pub field_size : ℕ

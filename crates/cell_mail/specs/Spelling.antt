@@ -14,9 +14,13 @@ unfoldable pub number : ℕ → ℕ → List ℕ
 number zero n = []
 number (suc k) n = n % 256 ∷ number k (n / 256)
 
--- a record: key, count, mass and the three sums
+-- the nine sums of a record, in the order in which they are sent
+abbrev pub sums_of : CellValue → List ℕ
+sums_of c = c.sx ∷ c.sy ∷ c.sz ∷ c.sxx ∷ c.syy ∷ c.szz ∷ c.sxy ∷ c.sxz ∷ c.syz ∷ []
+
+-- a record: key, count, mass and the nine sums
 abbrev pub record_bytes : CellValue → List ℕ
-record_bytes c = number key_size c.key ++ (number count_size c.count ++ (number mass_size c.mass ++ (number sum_size c.sx ++ (number sum_size c.sy ++ number sum_size c.sz))))
+record_bytes c = number key_size c.key ++ (number count_size c.count ++ (number mass_size c.mass ++ flat_map (number sum_size) (sums_of c)))
 
 -- a body: place, mass and row
 abbrev pub body_bytes : BodyValue → List ℕ

@@ -14,6 +14,7 @@ mod number;
 mod parts;
 mod reading;
 mod skim;
+mod sums;
 #[cfg(test)]
 mod tests;
 

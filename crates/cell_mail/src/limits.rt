@@ -3,10 +3,10 @@
 ghost use Rattle.std.specs.Prelude.{◌≡◌};
 ghost use Rattle.cell_mail.specs.Reading as reading;
 
-use hot_model::limits::{FINE_BITS, MAX_ALL_MASS, MAX_BODIES, MAX_BODY_MASS};
+use hot_model::limits::{FINE_BITS, MAX_BODIES, MAX_BODY_MASS};
 
 /// The version of letters.
-pub const VERSION: u8 = 1;
+pub const VERSION: u8 = 2;
 
 /// The kinds of letters.
 pub const BRANCHES: u8 = 1;
@@ -29,6 +29,9 @@ pub const KEY_SIZE: usize = 8;
 
 pub const SUM_SIZE: usize = 16;
 
+/// How many sums a record has: those of mass times x, y, z, and times xx, yy, zz, xy, xz, yz.
+pub const SUMS: usize = 9;
+
 /// The most children of a cell.
 pub const MAX_CHILDREN: usize = 8;
 
@@ -37,7 +40,7 @@ const FIRST_CHILD: u64 = 8;
 
 /// Whether a number is a leading 1 with 0 to 21 octal digits behind it.
 #[tactic(auto, using(crate::proofs::Hints::on_cells))]
-fn is_cell(key: u64) -> bool
+pub(crate) fn is_cell(key: u64) -> bool
     ensures { result ≡ reading.is_cell key }
 {
     morton_key::is_cell(key)
@@ -48,21 +51,6 @@ pub(crate) fn is_below_root(key: u64) -> bool
     ensures { result ≡ reading.is_below_root key }
 {
     is_cell(key) && FIRST_CHILD <= key
-}
-
-/// Whether these are the fields of a record that may be sent.
-#[tactic(auto, unfolding(crate::specs::Reading::is_record))]
-pub(crate) fn is_record(key: u64, count: u32, mass: u64, sx: u128, sy: u128, sz: u128) -> bool
-    ensures { result ≡ reading.is_record (record { key = key; count = count; mass = mass; sx = sx; sy = sy; sz = sz }) }
-{
-    if !is_cell(key) || count < 1 || count > MAX_BODIES {
-        return false;
-    }
-    if mass < u64::from(count) || mass > MAX_ALL_MASS {
-        return false;
-    }
-    let most = u128::from(mass) * ((1 << FINE_BITS) - 1);
-    sx <= most && sy <= most && sz <= most
 }
 
 /// Whether these are the fields of a body that may be sent.

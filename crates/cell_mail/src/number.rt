@@ -1,10 +1,11 @@
 ghost use Rattle.std.specs.Prelude.{◌≡◌, ◌++◌, OnOk};
-ghost use Rattle.cell_mail.specs.Sizes.{mark_size, count_size, key_size, sum_size};
+ghost use Rattle.std.specs.List.{flat_map};
+ghost use Rattle.cell_mail.specs.Sizes.{mark_size, count_size, key_size, sum_size, sums_count};
 ghost use Rattle.cell_mail.specs.Spelling.{number};
-ghost use Rattle.cell_mail.specs.Reading.{Gives, number_at};
+ghost use Rattle.cell_mail.specs.Reading.{Gives, number_at, many};
 
 use crate::LetterError;
-use crate::limits::{COUNT_SIZE, KEY_SIZE, MARK_SIZE, SUM_SIZE};
+use crate::limits::{COUNT_SIZE, KEY_SIZE, MARK_SIZE, SUM_SIZE, SUMS};
 use byteorder::{ByteOrder, LittleEndian};
 use std::alloc::AllocError;
 
@@ -52,6 +53,20 @@ pub(crate) fn u128_at(bytes: &[u8]) -> Result<(u128, &[u8]), LetterError>
     Ok((LittleEndian::read_u128(bytes), &bytes[SUM_SIZE..]))
 }
 
+/// The nine sums of a record at the front, and the bytes after them.
+pub(crate) fn sums_at(bytes: &[u8]) -> Result<([u128; SUMS], &[u8]), LetterError>
+    ensures { Gives (λ x. (x.0, x.1.now)) result (many (number_at sum_size) sums_count bytes.now) }
+{
+    let mut sums = [0; SUMS];
+    let mut rest = bytes;
+    for i in 0..SUMS {
+        let (sum, after) = u128_at(rest)?;
+        sums[i] = sum;
+        rest = after;
+    }
+    Ok((sums, rest))
+}
+
 /// Writes one byte at the end.
 #[tactic(auto, using(crate::proofs::Numbers::on_writing))]
 pub(crate) fn put_u8(out: &mut Vec<u8>, n: u8) -> Result<(), AllocError>
@@ -94,4 +109,14 @@ pub(crate) fn put_count(out: &mut Vec<u8>, n: usize) -> Result<(), AllocError>
     let mut word = [0; KEY_SIZE];
     LittleEndian::write_u64(&mut word, n as u64);
     out.extend_from_slice(&word[..COUNT_SIZE])
+}
+
+/// Writes sums at the end, sixteen bytes each.
+pub(crate) fn put_sums(out: &mut Vec<u8>, sums: &[u128]) -> Result<(), AllocError>
+    ensures { OnOk result (out.new.items ≡ out.old.items ++ flat_map (number sum_size) sums.now) }
+{
+    for sum in sums {
+        put_u128(out, *sum)?;
+    }
+    Ok(())
 }

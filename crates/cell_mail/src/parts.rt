@@ -5,9 +5,10 @@ ghost use Rattle.cell_mail.specs.Skimming.{record_key_at};
 
 use crate::LetterError;
 use crate::entry::Entry;
-use crate::limits::{is_below_root, is_record, is_sent};
-use crate::number::{put_u32, put_u64, put_u128, u32_at, u64_at, u128_at};
+use crate::limits::{is_below_root, is_sent};
+use crate::number::{put_sums, put_u32, put_u64, sums_at, u32_at, u64_at};
 use crate::skim::Skim;
+use crate::sums::is_record;
 use hot_model::{Body, CellRec, body_of};
 use std::alloc::{AllocError, Global};
 
@@ -48,22 +49,23 @@ impl Entry for CellRec {
         let (key, rest) = u64_at(bytes)?;
         let (count, rest) = u32_at(rest)?;
         let (mass, rest) = u64_at(rest)?;
-        let (sx, rest) = u128_at(rest)?;
-        let (sy, rest) = u128_at(rest)?;
-        let (sz, rest) = u128_at(rest)?;
-        if !is_record(key, count, mass, sx, sy, sz) {
+        let (s, rest) = sums_at(rest)?;
+        if !is_record(key, count, mass, s) {
             return Err(LetterError::NotALetter);
         }
-        Ok((CellRec::new(key, count, mass, sx, sy, sz), rest))
+        let sums = [s[0], s[1], s[2]];
+        let products = [s[3], s[4], s[5], s[6], s[7], s[8]];
+        Ok((CellRec::new(key, count, mass, sums, products), rest))
     }
 
     fn write(&self, out: &mut Vec<u8>) -> Result<(), AllocError> {
         put_u64(out, self.key)?;
         put_u32(out, self.count)?;
         put_u64(out, self.mass)?;
-        put_u128(out, self.sx)?;
-        put_u128(out, self.sy)?;
-        put_u128(out, self.sz)
+        let sums = [
+            self.sx, self.sy, self.sz, self.sxx, self.syy, self.szz, self.sxy, self.sxz, self.syz,
+        ];
+        put_sums(out, &sums)
     }
 }
 

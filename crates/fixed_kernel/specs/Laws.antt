@@ -8,4 +8,4 @@ use Rattle.hot_model.specs.Forces.{gravity_adds, untouched, whole}
 abbrev pub ForcesByTerms : Type 0
 ForcesByTerms =
     (s : Settings) (bodies : List BodyValue) (b : BodyValue)
-    → added (gravity_adds s.eps b) untouched (terms (opens_of s b) s.leaf bodies) ≡ whole (mass_of bodies) (force s bodies b)
+    → added (gravity_adds s.second s.eps b) untouched (terms (opens_of s b) s.leaf bodies) ≡ whole (mass_of bodies) (force s bodies b)

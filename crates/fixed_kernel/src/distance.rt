@@ -4,6 +4,8 @@ ghost use Rattle.hot_model.specs.Limits.{fine_bits};
 ghost use Rattle.hot_model.specs.Kernel as kernel;
 ghost use Rattle.hot_model.specs.Kernel.{point_at, InCube};
 
+use crate::Eps;
+
 /// The square of how far two coordinates are apart.
 #[tactic(auto, using(crate::proofs::Hints::on_along))]
 #[inline(always)]
@@ -27,4 +29,18 @@ pub(crate) fn distance2(p: [u32; 3], c: [u32; 3]) -> u64
     ensures within { result ≤ 3 * 2 ^ 58 }
 {
     gap2(p[0], c[0]) + gap2(p[1], c[1]) + gap2(p[2], c[2])
+}
+
+/// The softened squared distance.
+#[tactic(auto, using(crate::proofs::Hints::on_soft))]
+#[inline(always)]
+pub(crate) fn soft2(p: [u32; 3], c: [u32; 3], eps: Eps) -> u64
+    requires p_in { InCube p }
+    requires c_in { InCube c }
+    ensures value { result ≡ kernel.soft2 eps (point_at p) (point_at c) }
+    ensures above { 0 < result }
+    ensures within { result < 2 ^ 60 }
+{
+    let eps = u64::from(eps.get());
+    distance2(p, c) + eps * eps
 }

@@ -1,19 +1,21 @@
 // Where a cell counts, and whether it counts as one source.
 ghost use Rattle.std.specs.Prelude.{◌≡◌, ◌<◌};
 ghost use Rattle.hot_model.specs.Kernel as kernel;
-ghost use Rattle.hot_model.specs.Kernel.{coordinates, InCube};
+ghost use Rattle.hot_model.specs.Kernel.{coordinates, point_at, InCube};
+ghost use Rattle.hot_model.specs.Keys.{IsInBox};
 
 use crate::Ratio;
 use crate::distance::distance2;
 use hot_model::{Body, CellRec, covers, level};
 
 /// The centre of mass of a cell that is not empty, rounded down on each axis: three fine
-/// coordinates, each below 2^29. It takes no memory.
+/// coordinates, a place in the cell. It takes no memory.
 #[inline]
 pub fn centre(c: &CellRec) -> [u32; 3]
     requires not_empty { 0 < c.now.count }
     ensures value { result ≡ coordinates (kernel.centre c.now) }
     ensures within { InCube result }
+    ensures in_cell { IsInBox c.now.key (point_at result) }
 {
     c.centre()
 }

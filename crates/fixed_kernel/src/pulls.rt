@@ -8,7 +8,7 @@ ghost use Rattle.fixed_kernel.specs.Tried.{MayTry};
 
 use crate::Eps;
 use crate::bounds::bound_pull;
-use crate::distance::distance2;
+use crate::distance::soft2;
 use crate::floats::{PullHints, hint_pull};
 use crate::roots::root_by;
 
@@ -74,7 +74,7 @@ fn dividend(p: u32, c: u32, mass: u64) -> u128
 
 /// One component of the pull, by its size.
 #[inline(always)]
-fn toward(p: u32, c: u32, size: u64) -> i128
+pub(crate) fn toward(p: u32, c: u32, size: u64) -> i128
     requires { size < 2 ^ 63 }
     ensures { result ≡ kernel.toward p c size }
 {
@@ -124,20 +124,6 @@ fn pull_by(p: [u32; 3], c: [u32; 3], mass: u64, by: u128, hints: PullHints) -> [
             pull_along(p[2], c[2], mass, by),
         ]
     }
-}
-
-/// The softened squared distance.
-#[tactic(auto, using(crate::proofs::Hints::on_soft))]
-#[inline(always)]
-fn soft2(p: [u32; 3], c: [u32; 3], eps: Eps) -> u64
-    requires p_in { InCube p }
-    requires c_in { InCube c }
-    ensures value { result ≡ kernel.soft2 eps (point_at p) (point_at c) }
-    ensures above { 0 < result }
-    ensures within { result < 2 ^ 60 }
-{
-    let eps = u64::from(eps.get());
-    distance2(p, c) + eps * eps
 }
 
 /// The divisor of the pull, where a hint may be the root.
@@ -240,8 +226,8 @@ fn pull_at(p: [u32; 3], c: [u32; 3], mass: u64, soft: u64) -> [i128; 3]
 }
 
 /// The pull of a mass at `c` on a body at `p`, by gravity with Plummer softening: each component is
-/// `mass * |c - p| * 2^50 / (r2 * s)`, rounded down in size, with the sign of `c - p`. Here `r2` is the squared distance
-/// plus the square of `eps`, and `s` the root of `r2 * 2^20`, rounded down.
+/// `mass * |c - p| * 2^50 / (r2 * s)`, rounded down in size, with the sign of `c - p`. Here `r2` is
+/// the squared distance plus the square of `eps`, and `s` the root of `r2 * 2^20`, rounded down.
 ///
 /// Places are in fine units, each coordinate below 2^29, the mass is at most 2^40, and the pull is
 /// in units of 2^-40 of mass over squared fine distance. It is 0 for the mass 0 and for the place

@@ -1,7 +1,8 @@
-ghost use Rattle.std.specs.Prelude.{◌<◌};
+ghost use Rattle.std.specs.Prelude.{◌<◌, IfSome};
 
 use crate::{Eps, ForceVisit, Ratio, accepts, centre, pull, root};
-use hot_model::{Body, CellRec, Seen, Visit, body_of};
+use hot_model::{Body, CellRec, Seen, Visit, body_of, covers};
+use moments::of_body;
 use std::process::Abort;
 use std::test::Fail;
 
@@ -184,21 +185,17 @@ fn extreme_pulls(rt: HostRuntime) -> Result<(), Fail> {
     pulls_are(&rt, &cases)
 }
 
-/// The record of one octant with a single body, wherever it is.
-fn octant(digit: u32, at: &Body) -> CellRec
+/// The record of one octant with a single body, if the body lies there.
+fn octant(digit: u32, at: &Body) -> Option<CellRec>
     requires { digit < 8 }
-    ensures { 0 < result.count }
+    ensures { IfSome result (λ r. 0 < r.count) }
 {
-    let mass = u64::from(at.mass);
-    let all = u128::from(at.mass);
-    CellRec::new(
-        8 + u64::from(digit),
-        1,
-        mass,
-        all * u128::from(at.x),
-        all * u128::from(at.y),
-        all * u128::from(at.z),
-    )
+    let cell = 8 + u64::from(digit);
+    if covers(cell, at.key) {
+        Some(of_body(cell, at))
+    } else {
+        None
+    }
 }
 
 #[test]
@@ -208,7 +205,7 @@ fn openings(rt: HostRuntime) -> Result<(), Fail> {
         ((0, 0, 0), 4, (268435457, 0, 0), 1, 1, true),
         ((0, 0, 0), 4, (536870911, 0, 0), 1, 1, true),
         ((0, 0, 0), 4, (536870911, 0, 0), 0, 1, false),
-        ((0, 0, 0), 0, (536870911, 0, 0), 1, 1, false),
+        ((0, 0, 0), 0, (268435455, 0, 0), 1, 1, false),
         ((0, 0, 0), 4, (536870911, 0, 0), 1, 2, false),
         ((0, 0, 0), 7, (536870911, 536870911, 536870911), 1, 2, true),
         ((268173312, 0, 0), 4, (268435456, 0, 0), 1024, 1, false),
@@ -218,7 +215,7 @@ fn openings(rt: HostRuntime) -> Result<(), Fail> {
         let body = body_of(from.0, from.1, from.2, 1, 0).ok_or("a place")?;
         let at = body_of(at.0, at.1, at.2, 3, 1).ok_or("a place")?;
         let ratio = Ratio::new(num, den).ok_or("a ratio")?;
-        let cell = octant(digit % 8, &at);
+        let cell = octant(digit % 8, &at).ok_or("a body of the octant")?;
         assert_eq!(rt; centre(&cell), [at.x, at.y, at.z]);
         assert_eq!(rt; accepts(&body, &cell, ratio), accepted);
     }
@@ -229,9 +226,9 @@ fn openings(rt: HostRuntime) -> Result<(), Fail> {
 fn visit_adds(rt: HostRuntime) -> Result<(), Fail> {
     let ratio = Ratio::new(1, 1).ok_or("a ratio")?;
     let visit = ForceVisit::new(ratio, Eps::new(1).ok_or("a softening")?);
-    let body = body_of(0, 0, 0, 1, 0).ok_or("a place")?;
-    let other = body_of(1024, 0, 0, 3, 1).ok_or("a place")?;
-    let cell = octant(4, &other);
+    let body = body_of(268435456, 0, 0, 1, 0).ok_or("a place")?;
+    let other = body_of(268436480, 0, 0, 3, 1).ok_or("a place")?;
+    let cell = octant(4, &other).ok_or("a body of the octant")?;
     let mut near = visit.zero(rt.alloc());
     let mut far = visit.zero(rt.alloc());
     visit.near(&mut near, &body, &other)?;

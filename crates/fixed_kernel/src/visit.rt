@@ -1,18 +1,21 @@
-ghost use Rattle.std.specs.Prelude.{◌≡◌, ◌≤◌, ◌<◌, ◌+◌, ◌+ℤ◌, ◌*◌, ◌^◌, not, pos, slice_index_or, nat_abs};
+ghost use Rattle.std.specs.Prelude.{◌≡◌, ◌≤◌, ◌<◌, ◌↔◌, ◌+◌, ◌+ℤ◌, ◌*◌, ◌^◌, not, pos, slice_index_or, nat_abs, IsSome, IfSome, true, false};
 ghost use Rattle.hot_model.specs.Limits.{max_all_mass};
 ghost use Rattle.hot_model.specs.Kernel as kernel;
-ghost use Rattle.hot_model.specs.Kernel.{IsPullBy};
+ghost use Rattle.hot_model.specs.Kernel.{components, vector_at, IsPullBy};
+ghost use Rattle.hot_model.specs.Second.{IsSmall};
+ghost use Rattle.hot_model.specs.Trees as trees;
 ghost use Rattle.hot_model.specs.Forces.{gravity_adds, untouched};
 ghost use Rattle.hot_model.specs.Trees.{Near, Far};
 ghost use Rattle.fixed_kernel.specs.Additions.{gravity_sees, gravity_swaps};
 
-use crate::{Eps, Ratio, accepts, centre, pull};
+use crate::{Eps, Ratio, accepts, centre, pull, quad};
 use hot_model::{Acc3, Body, CellRec, Seen, Visit};
 use std::alloc::{AllocError, Global};
 use std::marker::Model;
 
 /// The visit of the gravity walk (Barnes and Hut, 1986): it opens a cell that the opening test does
-/// not accept, and adds up the pulls of the cells and bodies that it meets.
+/// not accept, and adds up the pulls of the cells and bodies that it meets. At second order a cell
+/// acts with its second moments.
 ///
 /// Additions may change places, and each component stays at most 2^40 times the mass seen. Clauses
 /// see the ratio and the softening.
@@ -20,6 +23,7 @@ use std::marker::Model;
 pub struct ForceVisit {
     ratio: Ratio,
     eps: Eps,
+    second: bool,
 }
 
 impl Model for ForceVisit {
@@ -27,17 +31,77 @@ impl Model for ForceVisit {
 
     ghost Value = { VisitValue };
 
-    ghost view = { λ v. record { ratio = v.ratio; eps = v.eps } };
+    ghost view = { λ v. record { ratio = v.ratio; eps = v.eps; second = v.second } };
 
-    ghost inverse = { λ v. record { ratio = v.ratio; eps = v.eps } };
+    ghost inverse = { λ v. record { ratio = v.ratio; eps = v.eps; second = v.second } };
 }
 
 impl ForceVisit {
-    /// The visit with an opening ratio and a softening. It takes no memory.
+    /// The visit with an opening ratio and a softening, of first order: a cell acts by its mass
+    /// alone. It takes no memory.
     pub fn new(ratio: Ratio, eps: Eps) -> Self
-        ensures value { result ≡ record { ratio = ratio; eps = eps } }
+        ensures value { result ≡ record { ratio = ratio; eps = eps; second = false } }
     {
-        ForceVisit { ratio, eps }
+        ForceVisit {
+            ratio,
+            eps,
+            second: false,
+        }
+    }
+
+    /// The visit of second order: a cell acts with its second moments too. None exactly where the
+    /// ratio is above 1. It takes no memory.
+    pub fn with_second(ratio: Ratio, eps: Eps) -> Option<Self>
+        ensures within { IsSome result ↔ (ratio.num ≤ ratio.den) }
+        ensures value { IfSome result (λ v. v ≡ record { ratio = ratio; eps = eps; second = true }) }
+    {
+        if ratio.num() <= ratio.den() {
+            Some(ForceVisit {
+                ratio,
+                eps,
+                second: true,
+            })
+        } else {
+            None
+        }
+    }
+}
+
+/// The sum of a component of two pulls.
+fn sum_along(a: i128, b: i128) -> i128
+    requires a_in { nat_abs a ≤ 2 ^ 80 }
+    requires b_in { nat_abs b ≤ 2 ^ 80 }
+    ensures value { result ≡ a +ℤ b }
+{
+    a + b
+}
+
+/// The sum of two pulls.
+fn sum(a: [i128; 3], b: [i128; 3]) -> [i128; 3]
+    requires a_in { IsSmall (2 ^ 80) (vector_at a) }
+    requires b_in { IsSmall (2 ^ 80) (vector_at b) }
+    ensures value { result ≡ components (kernel.plus (vector_at a) (vector_at b)) }
+{
+    [
+        sum_along(a[0], b[0]),
+        sum_along(a[1], b[1]),
+        sum_along(a[2], b[2]),
+    ]
+}
+
+/// The pull of a cell as one source, with its second moments or without.
+fn pull_far(second: bool, eps: Eps, b: &Body, c: &CellRec) -> [i128; 3]
+    requires not_empty { 0 < c.now.count }
+    ensures value { result ≡ components (trees.pull_far second eps b.now c.now) }
+    ensures within { IsPullBy c.now.mass result }
+{
+    let _at_least_one = eps.get();
+    let place = [b.x, b.y, b.z];
+    let by = pull(place, centre(c), c.mass, eps);
+    if second {
+        sum(by, quad(place, c, eps))
+    } else {
+        by
     }
 }
 
@@ -78,7 +142,7 @@ impl Visit for ForceVisit {
 
     ghost opens_by = { λ v b c. not (kernel.accepts v.ratio.num v.ratio.den b c) };
 
-    ghost adds = { λ v b a t. gravity_adds v.eps b a t };
+    ghost adds = { λ v b a t. gravity_adds v.second v.eps b a t };
 
     fn zero(&self, _alloc: Global) -> Acc3 {
         Acc3 {
@@ -99,9 +163,9 @@ impl Visit for ForceVisit {
         requires not_empty { 0 < c.now.count }
         requires room { acc.old.seen + c.now.mass ≤ max_all_mass }
         ensures never_refused { result ≡ Ok tt }
-        ensures value { acc.new ≡ gravity_adds self.now.eps b.now acc.old (Far c.now) }
+        ensures value { acc.new ≡ gravity_adds self.now.second self.now.eps b.now acc.old (Far c.now) }
     {
-        let by = pull([b.x, b.y, b.z], centre(c), c.mass, self.eps);
+        let by = pull_far(self.second, self.eps, b, c);
         *acc = pulled(*acc, by, c.mass);
         Ok(())
     }
@@ -111,7 +175,7 @@ impl Visit for ForceVisit {
     fn near(&self, acc: &mut Acc3, b: &Body, other: &Body) -> Result<(), AllocError>
         requires room { acc.old.seen + other.now.mass ≤ max_all_mass }
         ensures never_refused { result ≡ Ok tt }
-        ensures value { acc.new ≡ gravity_adds self.now.eps b.now acc.old (Near other.now) }
+        ensures value { acc.new ≡ gravity_adds self.now.second self.now.eps b.now acc.old (Near other.now) }
     {
         let mass = u64::from(other.mass);
         let by = pull([b.x, b.y, b.z], [other.x, other.y, other.z], mass, self.eps);
@@ -119,7 +183,7 @@ impl Visit for ForceVisit {
         Ok(())
     }
 
-    ghost sees = { λ v b a t. gravity_sees v.eps b a t };
+    ghost sees = { λ v b a t. gravity_sees v.second v.eps b a t };
 
-    ghost swaps = { λ v b a s t. gravity_swaps v.eps b a s t };
+    ghost swaps = { λ v b a s t. gravity_swaps v.second v.eps b a s t };
 }

@@ -1,6 +1,6 @@
 -- What a walk over ranks gives of a run.
 use Rattle.std.proofs.Common.{ℕ, ◌≡◌, ◌≤◌, Bool, true, false, not, List, length, map, Option, Some, None, Result, Ok, Err, IsErr, IfOk, if◌then◌else◌, refl, ap, sym, ◌∙◌, subst, inl, inr}
-use Rattle.std.specs.Prelude.{◌⊎◌}
+use Rattle.std.specs.Prelude.{◌⊎◌, ◌==◌}
 use Rattle.std.specs.declared.alloc.AllocError.{AllocError}
 use Rattle.std.proofs.lemmas.List.{length-map}
 use Rattle.hot_model.specs.Values.{BodyValue, CellValue, Acc3Value}
@@ -36,9 +36,9 @@ world_is job set s r l = cc
 
 -- what the visit of a run means
 abbrev pub meaning_of : VisitValue → VisitOf Acc3Value
-meaning_of v = meaning (λ (x : VisitValue). untouched) (λ (x : VisitValue) b a t. gravity_adds x.eps b a t) (λ (x : VisitValue) b c. not (accepts x.ratio.num x.ratio.den b c)) (λ (a : Acc3Value). a.seen) v
+meaning_of v = meaning (λ (x : VisitValue). untouched) (λ (x : VisitValue) b a t. gravity_adds x.second x.eps b a t) (λ (x : VisitValue) b c. not (accepts x.ratio.num x.ratio.den b c)) (λ (a : Acc3Value). a.seen) v
 
-pub meaning_is : (v : VisitValue) (job : JobValue) → v ≡ record { ratio = job.ratio; eps = job.eps } → meaning_of v ≡ gravity_of job
+pub meaning_is : (v : VisitValue) (job : JobValue) → v ≡ record { ratio = job.ratio; eps = job.eps; second = job.moments == 2 } → meaning_of v ≡ gravity_of job
 meaning_is v job e = ap meaning_of e
 
 -- one value of the walk for each answer

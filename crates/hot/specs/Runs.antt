@@ -1,5 +1,5 @@
 -- Runs over ranks, and what they leave on the wire.
-use Rattle.std.specs.Prelude.{ℕ, ◌≡◌, ◌≤◌, ◌↔◌, Bool, true, List, [], ◌∷◌, ◌++◌, length, Contains, Option, Some, None}
+use Rattle.std.specs.Prelude.{ℕ, ◌≡◌, ◌≤◌, ◌↔◌, ◌==◌, Bool, true, List, [], ◌∷◌, ◌++◌, length, Contains, Option, Some, None}
 use Rattle.hot_model.specs.Values.{BodyValue, CellValue}
 use Rattle.hot_model.specs.Trees.{Settings, opens_of}
 use Rattle.hot_model.specs.World.{World}
@@ -34,7 +34,7 @@ log_of (used d) = d.log
 
 -- the numbers of the walk of a run
 abbrev pub settings_of : JobValue → Settings
-settings_of job = record { num = job.ratio.num; den = job.ratio.den; eps = job.eps; leaf = job.leaf }
+settings_of job = record { num = job.ratio.num; den = job.ratio.den; eps = job.eps; leaf = job.leaf; second = job.moments == 2 }
 
 -- the cells that a body opens
 abbrev pub opens_in : JobValue → BodyValue → CellValue → Bool

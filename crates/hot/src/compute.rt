@@ -1,5 +1,5 @@
 // Runs over ranks, and what is printed of them.
-ghost use Rattle.std.specs.Prelude.{◌≡◌, ◌≤◌, ℕ, List, [], Some, All, IfOk};
+ghost use Rattle.std.specs.Prelude.{◌≡◌, ◌≤◌, ◌==◌, ℕ, List, [], Some, All, IfOk};
 ghost use Rattle.hot_model.specs.Limits.{max_bodies};
 ghost use Rattle.hot_model.specs.Forces.{RowsCount};
 ghost use Rattle.sdf_rows.specs.Columns.{Is64Bits};
@@ -44,6 +44,19 @@ fn sharing_of(job: &Job<'_>) -> Sharing
     }
 }
 
+/// The visit of a run.
+fn visit_of(job: &Job<'_>) -> ForceVisit
+    ensures value { result ≡ record { ratio = job.now.ratio; eps = job.now.eps; second = job.now.moments == 2 } }
+{
+    if job.moments != 2 {
+        return ForceVisit::new(job.ratio, job.eps);
+    }
+    match ForceVisit::with_second(job.ratio, job.eps) {
+        Some(visit) => visit,
+        None => unreachable!(),
+    }
+}
+
 /// The walk of all bodies by gravity, shared out over ranks.
 fn walk_job<R: Threads + Sync, M: Wire, G: Gate>(
     rt: &R,
@@ -59,7 +72,7 @@ fn walk_job<R: Threads + Sync, M: Wire, G: Gate>(
         × IfOk result (λ f. IsWalkOf (job_value job.now) ordered.now (log_of wu)
         f.accs.items f.efforts.items f.opened.items f.rounds) }
 {
-    let visit = ForceVisit::new(job.ratio, job.eps);
+    let visit = visit_of(job);
     walk_over_ranks(rt, alloc, ordered, sharing_of(job), visit, wire, gate)
 }
 

@@ -51,8 +51,8 @@ impl Line {
 
     /// Ends the line, and writes it as one piece. No memory is taken.
     ///
-    /// `Failed` comes exactly where the sink's count of faults rises, and then a front of the line was
-    /// written.
+    /// `Failed` comes exactly where the sink's count of faults rises, and then a front of the line
+    /// was written.
     pub fn write<K: Sink>(mut self, sink: &mut K) -> Result<(), Failed>
         requires room { length self + 1 ≤ LINE_ROOM }
         requires unfailed { K.faults sink.old ≡ 0 }

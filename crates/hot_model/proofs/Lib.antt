@@ -12,6 +12,8 @@ pub mod Ranges
 mod Samples
 pub mod Members
 pub mod Fronts
+pub mod Corners
+pub mod Second
 pub mod Owners
 pub mod Worlds
 pub mod Aways

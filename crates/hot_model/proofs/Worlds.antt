@@ -17,6 +17,7 @@ use Rattle.hot_model.specs.Order.{before, IsInOrder}
 use Rattle.hot_model.specs.Limits.{max_bodies}
 use Rattle.hot_model.specs.World.{World, rank_of, IsBody, IsGood, piece, bodies_in}
 use Rattle.hot_model.specs.Split.{counted, weight_below, split_rank, split_world}
+use Rattle.hot_model.proofs.Corners.{inside-facts}
 use Rattle.hot_model.proofs.Ranges.{Rising, NoneBelow, none-below-less, not-before}
 
 -- the order of bodies is one
@@ -57,30 +58,6 @@ piece_in_order w q g = in_order_filter (λ b. eqb (rank_of w b) q) w.bodies g.in
 pub inside_in_order : (w : World) (c : ℕ) → IsGood w → IsInOrder (bodies_in w c)
 inside_in_order w c g = in_order_filter (contains c) w.bodies g.in_order
 
--- sums over bodies that have a mass and stand in the cube
-pub count_mass : (xs : List BodyValue) → All IsBody xs → length xs ≤ mass_of xs
-count_mass [] h = omega arith
-count_mass (x ∷ xs) h =
-    let b = All-head IsBody x xs h in
-    omega (arith, b.weighs, count_mass xs (All-tail IsBody x xs h), sum_by-cons mass_of_body x xs)
-
-pub mass_count : (xs : List BodyValue) → All IsBody xs → 1 ≤ mass_of xs → 1 ≤ length xs
-mass_count [] h m = absurd (omega (arith, m))
-mass_count (x ∷ xs) h m = omega arith
-
-moment : (m n : ℕ) → n < 2 ^ 29 → m * n ≤ m * (2 ^ 29 - 1)
-moment m n h =
-    let d : ℕ = 2 ^ 29 - 1 - n in
-    let e : n + d ≡ 2 ^ 29 - 1 = omega (arith, h) in
-    subst (λ (z : ℕ). m * n ≤ m * z) e (omega arith)
-
-pub moments : (f : BodyValue → ℕ) → ((b : BodyValue) → IsBody b → f b < 2 ^ 29) → (xs : List BodyValue) → All IsBody xs → sum_by (λ b. b.mass * f b) xs ≤ mass_of xs * (2 ^ 29 - 1)
-moments f g [] h = omega arith
-moments f g (x ∷ xs) h =
-    let p = moment x.mass (f x) (g x (All-head IsBody x xs h)) in
-    let r = moments f g xs (All-tail IsBody x xs h) in
-    omega (arith, p, r, sum_by-cons mass_of_body x xs, sum_by-cons (λ (b : BodyValue). b.mass * f b) x xs)
-
 pub sum_filter_le : (f : BodyValue → ℕ) (p : BodyValue → Bool) (xs : List BodyValue) → sum_by f (filter p xs) ≤ sum_by f xs
 sum_filter_le f p [] = omega arith
 sum_filter_le f p (x ∷ xs) = elim (p x) as (λ (t : Bool). sum_by f (cond t (x ∷ filter p xs) (filter p xs)) ≤ sum_by f (x ∷ xs)) [
@@ -89,18 +66,10 @@ sum_filter_le f p (x ∷ xs) = elim (p x) as (λ (t : Bool). sum_by f (cond t (x
 ]
 
 -- the record of a cell of a good world is one that code can hold
-pub record_is : (w : World) (c : ℕ) → IsGood w → IsCell c → IsCellRecord c (cell_record w.bodies c).count (cell_record w.bodies c).mass (cell_record w.bodies c).sx (cell_record w.bodies c).sy (cell_record w.bodies c).sz
+pub record_is : (w : World) (c : ℕ) → IsGood w → IsCell c → IsCellRecord (cell_record w.bodies c)
 record_is w c g i =
-    let all : All IsBody (inside w.bodies c) = All-filter (contains c) IsBody w.bodies g.sound in
-    record {
-      cell = i;
-      counted = count_mass (inside w.bodies c) all;
-      light = (let p = sum_filter_le mass_of_body (contains c) w.bodies in omega (arith, p, g.light));
-      weighs = mass_count (inside w.bodies c) all;
-      x_in = moments (λ b. b.x) (λ b k. k.x_in) (inside w.bodies c) all;
-      y_in = moments (λ b. b.y) (λ b k. k.y_in) (inside w.bodies c) all;
-      z_in = moments (λ b. b.z) (λ b k. k.z_in) (inside w.bodies c) all;
-    }
+    let p = sum_filter_le mass_of_body (contains c) w.bodies in
+    inside-facts c w.bodies i g.sound (omega (arith, p, g.light))
 
 -- the split
 sum_filter_more : (f : BodyValue → ℕ) (p q : BodyValue → Bool) → ((b : BodyValue) → p b ≡ true → q b ≡ true) → (xs : List BodyValue) → sum_by f (filter p xs) ≤ sum_by f (filter q xs)

@@ -111,4 +111,10 @@ joined_record c rs = record {
   sx = sum_by (λ r. r.sx) (filter (λ r. covers c r.key) rs);
   sy = sum_by (λ r. r.sy) (filter (λ r. covers c r.key) rs);
   sz = sum_by (λ r. r.sz) (filter (λ r. covers c r.key) rs);
+  sxx = sum_by (λ r. r.sxx) (filter (λ r. covers c r.key) rs);
+  syy = sum_by (λ r. r.syy) (filter (λ r. covers c r.key) rs);
+  szz = sum_by (λ r. r.szz) (filter (λ r. covers c r.key) rs);
+  sxy = sum_by (λ r. r.sxy) (filter (λ r. covers c r.key) rs);
+  sxz = sum_by (λ r. r.sxz) (filter (λ r. covers c r.key) rs);
+  syz = sum_by (λ r. r.syz) (filter (λ r. covers c r.key) rs);
 }

@@ -74,6 +74,10 @@ plus a b = record { x = a.x +ℤ b.x; y = a.y +ℤ b.y; z = a.z +ℤ b.z }
 abbrev pub point_at : List ℕ → Point
 point_at p = record { x = slice_index p 0; y = slice_index p 1; z = slice_index p 2 }
 
+-- an array of three as a vector
+abbrev pub vector_at : List ℤ → Vector
+vector_at v = record { x = slice_index_or v 0 (pos 0); y = slice_index_or v 1 (pos 0); z = slice_index_or v 2 (pos 0) }
+
 -- the three components of a vector
 abbrev pub components : Vector → List ℤ
 components v = v.x ∷ v.y ∷ v.z ∷ []

@@ -1,7 +1,7 @@
 -- Keys: 1 followed by octal digits.
 use Rattle.std.specs.Prelude.{ℕ, zero, suc, ◌+◌, ◌-◌, ◌*◌, ◌/◌, ◌%◌, ◌^◌, ◌<◌, ◌≤◌, Bool, cond, eqb, leb, ◌&&◌}
 use Rattle.hot_model.specs.Limits.{fine_bits, max_level}
-use Rattle.hot_model.specs.Values.{BodyValue}
+use Rattle.hot_model.specs.Values.{BodyValue, Point}
 
 -- bit k of n
 abbrev pub bit : ℕ → ℕ → ℕ
@@ -56,3 +56,29 @@ side c = 2 ^ (fine_bits - level c)
 -- the number of levels below a cell
 abbrev pub height : ℕ → ℕ
 height c = max_level - level c
+
+-- one bit of each of the last l digits of a key: bit 2 is that of x, bit 1 that of y, bit 0 that of z
+unfoldable pub bits_along : ℕ → ℕ → ℕ → ℕ
+bits_along zero k axis = 0
+bits_along (suc l) k axis = 2 * bits_along l (k / 8) axis + bit k axis
+
+-- the least coordinate in a cell along an axis
+abbrev pub corner_along : ℕ → ℕ → ℕ
+corner_along c axis = side c * bits_along (level c) c axis
+
+-- the least fine coordinates in a cell
+abbrev pub corner : ℕ → Point
+corner c = record { x = corner_along c 2; y = corner_along c 1; z = corner_along c 0 }
+
+-- how far a place in a cell is from the corner at most, on each axis
+abbrev pub extent : ℕ → ℕ
+extent c = side c - 1
+
+-- a place in the box of a cell: on each axis from the corner on, and below the corner plus the side
+pub record IsInBox (c : ℕ) (p : Point) : Type 0 where
+  pub x_from : (corner c).x ≤ p.x
+  pub y_from : (corner c).y ≤ p.y
+  pub z_from : (corner c).z ≤ p.z
+  pub x_to : p.x < (corner c).x + side c
+  pub y_to : p.y < (corner c).y + side c
+  pub z_to : p.z < (corner c).z + side c

@@ -2,6 +2,7 @@ pub mod Limits
 pub mod Values
 pub mod Keys
 pub mod Kernel
+pub mod Second
 pub mod Trees
 pub mod Facts
 pub mod Forces

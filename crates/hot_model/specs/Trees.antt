@@ -4,6 +4,7 @@ use Rattle.hot_model.specs.Limits.{max_level}
 use Rattle.hot_model.specs.Values.{BodyValue, CellValue, Vector, place}
 use Rattle.hot_model.specs.Keys.{contains, level, height}
 use Rattle.hot_model.specs.Kernel.{pull, centre, accepts, origin, plus}
+use Rattle.hot_model.specs.Second.{quad}
 
 -- the bodies of a cell
 abbrev pub inside : List BodyValue → ℕ → List BodyValue
@@ -26,6 +27,12 @@ record_of c xs = record {
   sx = sum_by (λ b. b.mass * b.x) xs;
   sy = sum_by (λ b. b.mass * b.y) xs;
   sz = sum_by (λ b. b.mass * b.z) xs;
+  sxx = sum_by (λ b. b.mass * b.x * b.x) xs;
+  syy = sum_by (λ b. b.mass * b.y * b.y) xs;
+  szz = sum_by (λ b. b.mass * b.z * b.z) xs;
+  sxy = sum_by (λ b. b.mass * b.x * b.y) xs;
+  sxz = sum_by (λ b. b.mass * b.x * b.z) xs;
+  syz = sum_by (λ b. b.mass * b.y * b.z) xs;
 }
 
 -- the record of a cell over a list of bodies
@@ -95,16 +102,21 @@ unfoldable pub total : List Vector → Vector
 total [] = origin
 total (v ∷ vs) = plus v (total vs)
 
--- the numbers of a walk by gravity
+-- the numbers of a walk by gravity; whether cells act with their second moments
 pub record Settings : Type 0 where
   pub num : ℕ
   pub den : ℕ
   pub eps : ℕ
   pub leaf : ℕ
+  pub second : Bool
 
--- the pull of a cell as one source
-abbrev pub pull_far : ℕ → BodyValue → CellValue → Vector
-pull_far eps b c = pull eps (place b) (centre c) c.mass
+-- the pull of a cell as one source, by its mass alone
+abbrev pub pull_first : ℕ → BodyValue → CellValue → Vector
+pull_first eps b c = pull eps (place b) (centre c) c.mass
+
+-- the pull of a cell as one source, with its second moments or without
+abbrev pub pull_far : Bool → ℕ → BodyValue → CellValue → Vector
+pull_far second eps b c = if second then plus (pull_first eps b c) (quad eps (place b) c) else pull_first eps b c
 
 -- the pull of one body on another
 abbrev pub pull_near : ℕ → BodyValue → BodyValue → Vector
@@ -118,10 +130,10 @@ opens_of s b c = not (accepts s.num s.den b c)
 unfoldable pub force_in : Settings → List BodyValue → BodyValue → ℕ → ℕ → Vector
 force_in s bodies b zero c =
     at_cell (is_empty (inside bodies c)) (opens_of s b (cell_record bodies c)) true
-    origin (pull_far s.eps b (cell_record bodies c)) (total (map (pull_near s.eps b) (inside bodies c))) origin
+    origin (pull_far s.second s.eps b (cell_record bodies c)) (total (map (pull_near s.eps b) (inside bodies c))) origin
 force_in s bodies b (suc deep) c =
     at_cell (is_empty (inside bodies c)) (opens_of s b (cell_record bodies c)) (leb (length (inside bodies c)) s.leaf)
-    origin (pull_far s.eps b (cell_record bodies c)) (total (map (pull_near s.eps b) (inside bodies c)))
+    origin (pull_far s.second s.eps b (cell_record bodies c)) (total (map (pull_near s.eps b) (inside bodies c)))
     (total (map (λ d. force_in s bodies b deep (child c d)) digits))
 
 -- the force on b: that from the root

@@ -1,4 +1,4 @@
-use crate::{Answer, AnswerList, Answered, BodyList, CellRec, KeyList, RecList, body_of};
+use crate::{Answer, AnswerList, Answered, BodyList, KeyList, body_of};
 use std::test::Fail;
 
 #[test]
@@ -24,14 +24,6 @@ fn lists_grow_at_their_end(rt: HostRuntime) -> Result<(), Fail> {
     assert_eq!(rt; answers.get(0).map(|a| a.key), Some(12));
     assert_eq!(rt; answers.pop().map(|a| a.key), Some(12));
     assert_eq!(rt; answers.get(0).map(|a| a.key), None);
-    let mut records = RecList::new(rt.alloc());
-    records.push(CellRec::new(9, 1, 2, 6, 8, 10))?;
-    assert_eq!(rt;
-        records.get(0).map(|r| (r.key, r.centre())),
-        Some((9, [3, 4, 5]))
-    );
-    assert_eq!(rt; records.pop().map(|r| r.mass), Some(2));
-    assert_eq!(rt; records.pop().map(|r| r.mass), None);
     Ok(())
 }
 

@@ -1,2 +1,3 @@
 pub mod WordNumbers
 pub mod PlaceSteps
+pub mod WideRatios

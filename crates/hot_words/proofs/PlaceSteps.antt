@@ -7,7 +7,7 @@ use Rattle.hot_words.specs.declared.table.CommandName.{CommandName}
 use Rattle.hot_words.specs.declared.faults.WordCode.{WordCode}
 use Rattle.hot_words.specs.Options.{takes_value}
 use Rattle.hot_words.specs.Places.{word_of, stands_as_value, holds_option}
-use Rattle.hot_words.specs.Faults.{code_of, fault_of, faults_of, fault_first}
+use Rattle.hot_words.specs.Faults.{code_of, fault_of, faults_of, fault_listed}
 
 -- whether the word behind a place is a value
 stands-next : (name : CommandName) (words : List (List ℕ)) (k : ℕ)
@@ -62,7 +62,7 @@ faults-next name words k o less is =
 -- the first fault stands at a place where all before are passed
 pub fault-found : (name : CommandName) (words : List (List ℕ)) (k : ℕ) (code : WordCode) → k < length words → Some code ≡ code_of name words k
     → filter_map (fault_of name words) (range_with_len k (length words - k)) ≡ faults_of name words
-    → Some (record { code = code; place = k }) ≡ fault_first name words
+    → Some (record { code = code; place = k }) ≡ fault_listed name words
 fault-found name words k code less is rest = ap (λ fs. slice_get fs 0) (sym (faults-next name words k (Some code) less is) ∙ rest)
 
 -- a place without a fault is passed

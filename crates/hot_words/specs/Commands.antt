@@ -13,6 +13,7 @@ pub record JobValue : Type 0 where
   pub ratio : RatioValue
   pub eps : ℕ
   pub leaf : ℕ
+  pub moments : ℕ
   pub mail : Mail
   pub sdf : Bool
   pub report : Bool
@@ -27,7 +28,7 @@ pub data CommandValue : Type 0 where
 
 -- what is seen of a run
 abbrev pub job_value : Job → JobValue
-job_value job = record { ranks = job.ranks; ratio = job.ratio; eps = job.eps; leaf = job.leaf; mail = job.mail; sdf = job.sdf; report = job.report; file = job.file.now }
+job_value job = record { ranks = job.ranks; ratio = job.ratio; eps = job.eps; leaf = job.leaf; moments = job.moments; mail = job.mail; sdf = job.sdf; report = job.report; file = job.file.now }
 
 -- what is seen of a command
 abbrev pub command_value : Command → CommandValue

@@ -1,13 +1,14 @@
 -- The faults of words behind a command.
-use Rattle.std.specs.Prelude.{ℕ, ◌-◌, not, ◌&&◌, List, length, if◌then◌else◌, Option, Some, None}
+use Rattle.std.specs.Prelude.{ℕ, ◌+◌, ◌-◌, Bool, not, ◌&&◌, ◌==◌, nat_lt, List, length, codes, if◌then◌else◌, Option, Some, None}
 use Rattle.std.specs.Option.{option_map}
 use Rattle.std.specs.List.{filter_map, range_with_len, slice_get}
 use Rattle.hot_words.specs.declared.table.CommandName.{CommandName}
 use Rattle.hot_words.specs.declared.faults.WordCode.{WordCode}
-use Rattle.hot_words.specs.declared.faults.WordCode.TheVariants.{A3, A4, A5, A6, A7}
+use Rattle.hot_words.specs.declared.faults.WordCode.TheVariants.{A3, A4, A5, A6, A7, A8}
 use Rattle.hot_words.specs.declared.faults.WordFault.{WordFault}
 use Rattle.hot_words.specs.Options.{has_option, takes_value, has_file, is_good}
-use Rattle.hot_words.specs.Places.{word_of, is_last, begins_option, stands_as_value, is_given}
+use Rattle.hot_words.specs.Places.{word_of, is_last, begins_option, stands_as_value, place_before, is_given}
+use Rattle.hot_words.specs.Settings.{ratio_given, moments_given}
 
 -- why a value is refused: it is not good for the option before it
 abbrev pub value_fault : List (List ℕ) → ℕ → Option WordCode
@@ -38,6 +39,25 @@ fault_of name words k = option_map (λ code. record { code = code; place = k }) 
 abbrev pub faults_of : CommandName → List (List ℕ) → List WordFault
 faults_of name words = filter_map (fault_of name words) (range_with_len 1 (length words - 1))
 
--- the fault that decides: the first
+-- the first of them
+abbrev pub fault_listed : CommandName → List (List ℕ) → Option WordFault
+fault_listed name words = slice_get (faults_of name words) 0
+
+-- whether the ratio is above 1 with second moments
+abbrev pub is_too_wide : CommandName → List (List ℕ) → Bool
+is_too_wide name words = (moments_given name words == 2) && nat_lt (ratio_given name words).den (ratio_given name words).num
+
+-- then the value of the ratio is at fault
+abbrev pub ratio_fault : CommandName → List (List ℕ) → Option WordFault
+ratio_fault name words = if is_too_wide name words
+    then option_map (λ k. record { code = A8; place = k + 1 }) (place_before name words (codes "--theta") (length words))
+    else None
+
+-- the first of two faults
+abbrev pub first_of : Option WordFault → Option WordFault → Option WordFault
+first_of None other = other
+first_of (Some fault) other = Some fault
+
+-- the fault that decides: the first of the words each by itself, and behind them the ratio's
 abbrev pub fault_first : CommandName → List (List ℕ) → Option WordFault
-fault_first name words = slice_get (faults_of name words) 0
+fault_first name words = first_of (fault_listed name words) (ratio_fault name words)

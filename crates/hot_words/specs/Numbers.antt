@@ -34,6 +34,10 @@ ranks_of word = within 1 max_ranks (number_of word)
 abbrev pub leaf_of : List ℕ → Option ℕ
 leaf_of word = within 1 max_leaf (number_of word)
 
+-- the order of the moments
+abbrev pub moments_of : List ℕ → Option ℕ
+moments_of word = within 1 2 (number_of word)
+
 -- how many bodies are made
 abbrev pub bodies_of : List ℕ → Option ℕ
 bodies_of word = within 0 max_bodies (number_of word)

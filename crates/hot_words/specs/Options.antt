@@ -4,7 +4,7 @@ use Rattle.std.specs.List.{list_any}
 use Rattle.std.specs.Str.{bytes_eq}
 use Rattle.hot_words.specs.declared.table.CommandName.{CommandName}
 use Rattle.hot_words.specs.declared.table.CommandName.TheVariants.{Forces, Split, Make, Sample}
-use Rattle.hot_words.specs.Numbers.{number_of, ranks_of, leaf_of, bodies_of, softening_of, ratio_of, mail_of, form_of}
+use Rattle.hot_words.specs.Numbers.{number_of, ranks_of, leaf_of, moments_of, bodies_of, softening_of, ratio_of, mail_of, form_of}
 
 -- the command of a word
 abbrev pub command_named : List ℕ → Option CommandName
@@ -20,7 +20,7 @@ body_options = codes "--bodies" ∷ codes "--seed" ∷ []
 
 -- the options of a run
 abbrev pub run_options : List (List ℕ)
-run_options = codes "--ranks" ∷ codes "--theta" ∷ codes "--eps" ∷ codes "--leaf" ∷ codes "--mail" ∷ []
+run_options = codes "--ranks" ∷ codes "--theta" ∷ codes "--eps" ∷ codes "--leaf" ∷ codes "--moments" ∷ codes "--mail" ∷ []
 
 -- the options of each command
 abbrev pub options_of : CommandName → List (List ℕ)
@@ -51,7 +51,8 @@ is_good option value =
     else (if bytes_eq option (codes "--theta") then is_some (ratio_of value)
     else (if bytes_eq option (codes "--eps") then is_some (softening_of value)
     else (if bytes_eq option (codes "--leaf") then is_some (leaf_of value)
+    else (if bytes_eq option (codes "--moments") then is_some (moments_of value)
     else (if bytes_eq option (codes "--mail") then is_some (mail_of value)
     else (if bytes_eq option (codes "--form") then is_some (form_of value)
     else (if bytes_eq option (codes "--bodies") then is_some (bodies_of value)
-    else (if bytes_eq option (codes "--seed") then is_some (number_of value) else false)))))))
+    else (if bytes_eq option (codes "--seed") then is_some (number_of value) else false))))))))

@@ -5,7 +5,7 @@ use Rattle.hot_model.specs.declared.mail.Mail.{Mail}
 use Rattle.hot_model.specs.declared.mail.Mail.TheVariants.{Prompt}
 use Rattle.fixed_kernel.specs.Ratio.{RatioValue}
 use Rattle.hot_words.specs.declared.table.CommandName.{CommandName}
-use Rattle.hot_words.specs.Numbers.{number_of, ranks_of, leaf_of, bodies_of, softening_of, ratio_of, mail_of, form_of}
+use Rattle.hot_words.specs.Numbers.{number_of, ranks_of, leaf_of, moments_of, bodies_of, softening_of, ratio_of, mail_of, form_of}
 use Rattle.hot_words.specs.Places.{word_of, begins_option, stands_as_value, is_given, value_of}
 
 -- what the value of an option says; the default where there is none, or where it is not good, which is a fault
@@ -27,6 +27,10 @@ softening_given name words = setting_of softening_of 256 (value_of name words (c
 -- the leaf limit: 8 by default
 abbrev pub leaf_given : CommandName → List (List ℕ) → ℕ
 leaf_given name words = setting_of leaf_of 8 (value_of name words (codes "--leaf"))
+
+-- the order of the moments: 1 by default
+abbrev pub moments_given : CommandName → List (List ℕ) → ℕ
+moments_given name words = setting_of moments_of 1 (value_of name words (codes "--moments"))
 
 -- how letters are handed out: promptly by default
 abbrev pub mail_given : CommandName → List (List ℕ) → Mail

@@ -2,7 +2,7 @@
 use Rattle.std.specs.Prelude.{ℕ, ◌-◌, List, ◌++◌, codes}
 use Rattle.hot_words.specs.declared.faults.WordFault.{WordFault}
 use Rattle.hot_words.specs.declared.faults.WordCode.{WordCode}
-use Rattle.hot_words.specs.declared.faults.WordCode.TheVariants.{A1, A2, A3, A4, A5, A6, A7}
+use Rattle.hot_words.specs.declared.faults.WordCode.TheVariants.{A1, A2, A3, A4, A5, A6, A7, A8}
 use Rattle.hot_words.specs.declared.texts.RefusalText.{RefusalText}
 use Rattle.hot_words.specs.Places.{word_of}
 
@@ -15,6 +15,7 @@ code_text A4 word before = codes "A4 no value for " ++ word
 code_text A5 word before = codes "A5 option given twice " ++ word
 code_text A6 word before = codes "A6 bad value " ++ (word ++ (codes " for " ++ before))
 code_text A7 word before = codes "A7 extra word " ++ word
+code_text A8 word before = codes "A8 ratio above 1 with --moments 2"
 
 -- the text of a refusal of words; a word that is not there is empty
 abbrev pub word_text : List (List ℕ) → WordFault → List ℕ

@@ -6,7 +6,7 @@ use Rattle.hot_words.specs.declared.faults.WordFault.{WordFault}
 use Rattle.hot_words.specs.declared.faults.WordCode.TheVariants.{A1, A2}
 use Rattle.hot_words.specs.Options.{command_named}
 use Rattle.hot_words.specs.Faults.{fault_first}
-use Rattle.hot_words.specs.Settings.{ranks_given, ratio_given, softening_given, leaf_given, mail_given, sdf_given, report_given, bodies_given, seed_given, file_given}
+use Rattle.hot_words.specs.Settings.{ranks_given, ratio_given, softening_given, leaf_given, moments_given, mail_given, sdf_given, report_given, bodies_given, seed_given, file_given}
 use Rattle.hot_words.specs.Commands.{JobValue, CommandValue, forces, split, make, sample}
 
 -- a run by its options, with the form of its output, a report and a file
@@ -16,6 +16,7 @@ job_of name words sdf report file = record {
   ratio = ratio_given name words;
   eps = softening_given name words;
   leaf = leaf_given name words;
+  moments = moments_given name words;
   mail = mail_given name words;
   sdf = sdf;
   report = report;

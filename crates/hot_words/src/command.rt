@@ -1,11 +1,13 @@
 // The command that words without a fault give.
-ghost use Rattle.std.specs.Prelude.{◌≡◌};
+ghost use Rattle.std.specs.Prelude.{◌≡◌, ◌≤◌, None};
 ghost use Rattle.hot_words.specs.Commands.{job_value, command_value, IsWithinLimits};
 ghost use Rattle.hot_words.specs.Words.{job_of, command_by};
+ghost use Rattle.hot_words.specs.Faults.{fault_first};
+ghost use Rattle.hot_words.specs.Settings.{ratio_given, moments_given};
 
 use crate::job::{Command, Job};
 use crate::settings::{
-    bodies, file, has_report, is_sdf, leaf, mail, ranks, ratio, seed, softening,
+    bodies, file, has_report, is_sdf, leaf, mail, moments, ranks, ratio, seed, softening,
 };
 use crate::table::CommandName;
 use crate::word_list::WordList;
@@ -18,6 +20,7 @@ fn make_job<'a>(
     report: bool,
     file: &'a str,
 ) -> Job<'a>
+    requires wide { moments_given name words.now ≡ 2 → (ratio_given name words.now).num ≤ (ratio_given name words.now).den }
     ensures { job_value result ≡ job_of name words.now sdf report file.now }
 {
     Job {
@@ -25,6 +28,7 @@ fn make_job<'a>(
         ratio: ratio(name, words),
         eps: softening(name, words),
         leaf: leaf(name, words),
+        moments: moments(name, words),
         mail: mail(name, words),
         sdf,
         report,
@@ -34,6 +38,7 @@ fn make_job<'a>(
 
 /// The command of this name, by its options and its file.
 pub fn make_command<'a>(name: CommandName, words: &'a WordList) -> Command<'a>
+    requires faultless { fault_first name words.now ≡ None }
     ensures value { command_value result ≡ command_by name words.now }
     ensures limits { IsWithinLimits result }
 {

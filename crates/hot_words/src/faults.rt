@@ -1,14 +1,15 @@
 // The first fault of words behind a command.
 ghost use Rattle.std.specs.Prelude.{◌≡◌, ◌<◌, ◌≤◌, length, IfSome};
 ghost use Rattle.hot_words.specs.Places.{stands_as_value};
-ghost use Rattle.hot_words.specs.Faults.{value_fault, option_fault, file_fault, code_of, fault_first};
+ghost use Rattle.hot_words.specs.Faults.{value_fault, option_fault, file_fault, code_of, fault_listed, ratio_fault, fault_first};
 
 use crate::places::{ends_words, find_option, has_dashes, word_at};
+use crate::settings::{moments, ratio};
 use crate::table::{CommandName, is_option, is_value, wants_file, wants_value};
 use crate::word_list::WordList;
 
 /// Why words are refused: no command; no command of this name; no option of this name; no value; an
-/// option twice; a bad value; a word too many.
+/// option twice; a bad value; a word too many; a ratio above 1 with second moments.
 #[derive(Clone, Copy, Debug, PartialEq, Eq)]
 pub enum WordCode {
     A1,
@@ -18,6 +19,7 @@ pub enum WordCode {
     A5,
     A6,
     A7,
+    A8,
 }
 
 /// The refusal of words, with the place of the deciding word, counted from 0.
@@ -81,10 +83,10 @@ fn judge(name: CommandName, words: &WordList, place: usize, holds_value: bool) -
     }
 }
 
-/// The first fault from the left of the words behind a command. Words without a fault are few, so
-/// it reads a few words at most, however many there are.
-pub fn first_fault(name: CommandName, words: &WordList) -> Option<WordFault>
-    ensures first { result ≡ fault_first name words.now }
+/// The first word from the left that is at fault by itself, of the words behind a command. Words
+/// without a fault are few, so it reads a few words at most, however many there are.
+fn first_word_fault(name: CommandName, words: &WordList) -> Option<WordFault>
+    ensures first { result ≡ fault_listed name words.now }
     ensures placed { IfSome result (λ fault. fault.place < length words.now) }
 {
     let mut holds_value = wants_value(name, word_at(words, 0));
@@ -95,4 +97,34 @@ pub fn first_fault(name: CommandName, words: &WordList) -> Option<WordFault>
         holds_value = wants_value(name, word_at(words, place)) && !holds_value;
     }
     None
+}
+
+/// The fault of a ratio above 1 with second moments, at its value.
+fn judge_ratio(name: CommandName, words: &WordList) -> Option<WordFault>
+    ensures value { result ≡ ratio_fault name words.now }
+    ensures placed { IfSome result (λ fault. fault.place < length words.now) }
+{
+    let ratio = ratio(name, words);
+    if moments(name, words) != 2 || ratio.num() <= ratio.den() {
+        return None;
+    }
+    match find_option(name, words, "--theta", words.len()) {
+        Some(place) => Some(WordFault {
+            code: WordCode::A8,
+            place: place + 1,
+        }),
+        None => None,
+    }
+}
+
+/// The fault that decides of the words behind a command: the first from the left, and behind them
+/// all the ratio's.
+pub fn first_fault(name: CommandName, words: &WordList) -> Option<WordFault>
+    ensures first { result ≡ fault_first name words.now }
+    ensures placed { IfSome result (λ fault. fault.place < length words.now) }
+{
+    match first_word_fault(name, words) {
+        Some(fault) => Some(fault),
+        None => judge_ratio(name, words),
+    }
 }

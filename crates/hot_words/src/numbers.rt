@@ -1,7 +1,7 @@
 // Values as the words give them.
 ghost use Rattle.std.specs.Prelude.{◌≡◌, ◌≤◌, ◌↔◌, [], length, IsTrue, EachIndex, slice_index, MatchOption};
 ghost use Rattle.std.specs.List.{before_first, after_first};
-ghost use Rattle.hot_words.specs.Numbers.{number_of, within, ranks_of, leaf_of, bodies_of, softening_of, ratio_of, mail_of, form_of, is_slash};
+ghost use Rattle.hot_words.specs.Numbers.{number_of, within, ranks_of, leaf_of, moments_of, bodies_of, softening_of, ratio_of, mail_of, form_of, is_slash};
 
 use fixed_kernel::{Eps, Ratio};
 use hot_model::Mail;
@@ -59,6 +59,13 @@ pub fn read_leaf(word: &str) -> Option<u32>
     ensures value { result ≡ leaf_of word.now }
 {
     read_within(word, 1, MAX_LEAF)
+}
+
+/// The order of the moments, 1 or 2; None exactly where the word is no such number.
+pub fn read_moments(word: &str) -> Option<u32>
+    ensures value { result ≡ moments_of word.now }
+{
+    read_within(word, 1, 2)
 }
 
 /// How many bodies are made, 0 to 262,144; None exactly where the word is no such number.

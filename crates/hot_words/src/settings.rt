@@ -2,10 +2,11 @@
 // default in a command.
 ghost use Rattle.std.specs.Prelude.{◌≡◌, ◌≤◌};
 ghost use Rattle.hot_model.specs.Limits.{max_ranks, max_leaf, max_bodies};
-ghost use Rattle.hot_words.specs.Settings.{ranks_given, ratio_given, softening_given, leaf_given, mail_given, sdf_given, report_given, bodies_given, seed_given, file_given};
+ghost use Rattle.hot_words.specs.Settings.{ranks_given, ratio_given, softening_given, leaf_given, moments_given, mail_given, sdf_given, report_given, bodies_given, seed_given, file_given};
 
 use crate::numbers::{
-    read_bodies, read_eps, read_form, read_leaf, read_mail, read_number, read_ranks, read_ratio,
+    read_bodies, read_eps, read_form, read_leaf, read_mail, read_moments, read_number, read_ranks,
+    read_ratio,
 };
 use crate::places::{find_option, find_value, has_dashes, holds_value, word_at};
 use crate::table::CommandName;
@@ -58,6 +59,17 @@ pub fn leaf(name: CommandName, words: &WordList) -> u32
     match find_value(name, words, "--leaf") {
         Some(value) => read_leaf(value).unwrap_or(8),
         None => 8,
+    }
+}
+
+/// The order of the moments: 1 by default.
+pub fn moments(name: CommandName, words: &WordList) -> u32
+    ensures value { result ≡ moments_given name words.now }
+    ensures limits { (1 ≤ result) × (result ≤ 2) }
+{
+    match find_value(name, words, "--moments") {
+        Some(value) => read_moments(value).unwrap_or(1),
+        None => 1,
     }
 }
 

@@ -5,7 +5,8 @@ ghost use Rattle.std.specs.Str.{bytes_eq};
 ghost use Rattle.hot_words.specs.Options.{command_named, run_options, body_options, has_option, takes_value, has_file, is_good};
 
 use crate::numbers::{
-    read_bodies, read_eps, read_form, read_leaf, read_mail, read_number, read_ranks, read_ratio,
+    read_bodies, read_eps, read_form, read_leaf, read_mail, read_moments, read_number, read_ranks,
+    read_ratio,
 };
 
 /// A command by its name.
@@ -50,6 +51,7 @@ fn is_run_option(word: &str) -> bool
         || word == "--theta"
         || word == "--eps"
         || word == "--leaf"
+        || word == "--moments"
         || word == "--mail"
 }
 
@@ -86,6 +88,7 @@ pub fn is_value(option: &str, value: &str) -> bool
         "--theta" => read_ratio(value).is_some(),
         "--eps" => read_eps(value).is_some(),
         "--leaf" => read_leaf(value).is_some(),
+        "--moments" => read_moments(value).is_some(),
         "--mail" => read_mail(value).is_some(),
         "--form" => read_form(value).is_some(),
         "--bodies" => read_bodies(value).is_some(),

@@ -251,6 +251,36 @@ fn refused_words(rt: HostRuntime) -> Result<(), Fail> {
         ("sample --bodies 1 -", WordCode::A7, 3, "A7 extra word -"),
         ("forces --report x y", WordCode::A7, 2, "A7 extra word x"),
         (
+            "forces --moments 3",
+            WordCode::A6,
+            2,
+            "A6 bad value 3 for --moments",
+        ),
+        (
+            "split --moments 2",
+            WordCode::A3,
+            1,
+            "A3 unknown option --moments",
+        ),
+        (
+            "forces --theta 2/1 --moments 2",
+            WordCode::A8,
+            2,
+            "A8 ratio above 1 with --moments 2",
+        ),
+        (
+            "sample --moments 2 --leaf 1 --theta 8/7",
+            WordCode::A8,
+            6,
+            "A8 ratio above 1 with --moments 2",
+        ),
+        (
+            "forces --theta 2/1 --moments 2 f --leaf",
+            WordCode::A7,
+            5,
+            "A7 extra word f",
+        ),
+        (
             "forces --eps 0 --none",
             WordCode::A6,
             2,
@@ -298,8 +328,9 @@ fn mail_word(alloc: Global, mail: Mail) -> Result<String, AllocError> {
 fn job_line(alloc: Global, job: &Job) -> Result<String, AllocError> {
     let mail = mail_word(alloc, job.mail)?;
     let (ranks, num, den) = (job.ranks, job.ratio.num(), job.ratio.den());
-    let (eps, leaf, sdf, report, file) = (job.eps.get(), job.leaf, job.sdf, job.report, job.file);
-    format!(in alloc; "{ranks} {num}/{den} {eps} {leaf} {mail} {sdf} {report} {file}")
+    let (eps, leaf, moments, sdf) = (job.eps.get(), job.leaf, job.moments, job.sdf);
+    let (report, file) = (job.report, job.file);
+    format!(in alloc; "{ranks} {num}/{den} {eps} {leaf} {moments} {mail} {sdf} {report} {file}")
 }
 
 /// A command in a line.
@@ -322,76 +353,91 @@ fn command_line(alloc: Global, command: &Command) -> Result<String, AllocError> 
 fn accepted_words(rt: HostRuntime) -> Result<(), Fail> {
     let alloc = rt.alloc();
     for (words, want) in [
-        ("forces", "forces 1 7/10 256 8 prompt false false -"),
-        ("forces f", "forces 1 7/10 256 8 prompt false false f"),
-        ("forces -", "forces 1 7/10 256 8 prompt false false -"),
-        ("forces -x", "forces 1 7/10 256 8 prompt false false -x"),
-        ("forces ", "forces 1 7/10 256 8 prompt false false "),
+        ("forces", "forces 1 7/10 256 8 1 prompt false false -"),
+        ("forces f", "forces 1 7/10 256 8 1 prompt false false f"),
+        ("forces -", "forces 1 7/10 256 8 1 prompt false false -"),
+        ("forces -x", "forces 1 7/10 256 8 1 prompt false false -x"),
+        ("forces ", "forces 1 7/10 256 8 1 prompt false false "),
         (
             "forces forces",
-            "forces 1 7/10 256 8 prompt false false forces",
+            "forces 1 7/10 256 8 1 prompt false false forces",
         ),
         (
             "forces --ranks 64",
-            "forces 64 7/10 256 8 prompt false false -",
+            "forces 64 7/10 256 8 1 prompt false false -",
         ),
         (
             "forces --theta 0/1",
-            "forces 1 0/1 256 8 prompt false false -",
+            "forces 1 0/1 256 8 1 prompt false false -",
         ),
         (
             "forces --theta 1024/1024",
-            "forces 1 1024/1024 256 8 prompt false false -",
+            "forces 1 1024/1024 256 8 1 prompt false false -",
         ),
         (
             "forces --theta 00000000000000000000/01024",
-            "forces 1 0/1024 256 8 prompt false false -",
+            "forces 1 0/1024 256 8 1 prompt false false -",
         ),
         (
             "forces --eps 268435456",
-            "forces 1 7/10 268435456 8 prompt false false -",
+            "forces 1 7/10 268435456 8 1 prompt false false -",
         ),
         (
             "forces --eps 00000000000000000001",
-            "forces 1 7/10 1 8 prompt false false -",
+            "forces 1 7/10 1 8 1 prompt false false -",
         ),
         (
             "forces --leaf 64",
-            "forces 1 7/10 256 64 prompt false false -",
+            "forces 1 7/10 256 64 1 prompt false false -",
         ),
         (
             "forces --mail prompt",
-            "forces 1 7/10 256 8 prompt false false -",
+            "forces 1 7/10 256 8 1 prompt false false -",
         ),
         (
             "forces --mail last",
-            "forces 1 7/10 256 8 last false false -",
+            "forces 1 7/10 256 8 1 last false false -",
         ),
         (
             "forces --mail single",
-            "forces 1 7/10 256 8 single false false -",
+            "forces 1 7/10 256 8 1 single false false -",
         ),
-        ("forces --mail 05", "forces 1 7/10 256 8 5 false false -"),
+        ("forces --mail 05", "forces 1 7/10 256 8 1 5 false false -"),
         (
             "forces --mail 18446744073709551615",
-            "forces 1 7/10 256 8 18446744073709551615 false false -",
+            "forces 1 7/10 256 8 1 18446744073709551615 false false -",
         ),
         (
             "forces --form text",
-            "forces 1 7/10 256 8 prompt false false -",
+            "forces 1 7/10 256 8 1 prompt false false -",
         ),
         (
             "forces --form sdf",
-            "forces 1 7/10 256 8 prompt true false -",
+            "forces 1 7/10 256 8 1 prompt true false -",
         ),
-        ("forces --report", "forces 1 7/10 256 8 prompt false true -"),
+        (
+            "forces --report",
+            "forces 1 7/10 256 8 1 prompt false true -",
+        ),
         (
             "forces --report f",
-            "forces 1 7/10 256 8 prompt false true f",
+            "forces 1 7/10 256 8 1 prompt false true f",
         ),
         (
             "forces --form sdf --mail 3 --report --leaf 1 --eps 2 --theta 1/2 --ranks 4 f",
-            "forces 4 1/2 2 1 3 true true f",
+            "forces 4 1/2 2 1 1 3 true true f",
+        ),
+        (
+            "forces --moments 1 --theta 2/1",
+            "forces 1 2/1 256 8 1 prompt false false -",
+        ),
+        (
+            "forces --moments 2",
+            "forces 1 7/10 256 8 2 prompt false false -",
+        ),
+        (
+            "sample --theta 5/5 --moments 02",
+            "sample 1000 0 1 5/5 256 8 2 prompt false false -",
         ),
         ("split", "split 1 -"),
         ("split --ranks 2 f", "split 2 f"),
@@ -401,10 +447,13 @@ fn accepted_words(rt: HostRuntime) -> Result<(), Fail> {
             "make 0 18446744073709551615",
         ),
         ("make --seed 7 --bodies 262144", "make 262144 7"),
-        ("sample", "sample 1000 0 1 7/10 256 8 prompt false false -"),
+        (
+            "sample",
+            "sample 1000 0 1 7/10 256 8 1 prompt false false -",
+        ),
         (
             "sample --bodies 20000 --seed 7 --ranks 16 --theta 1/1 --eps 1 --leaf 1 --mail last",
-            "sample 20000 7 16 1/1 1 1 last false false -",
+            "sample 20000 7 16 1/1 1 1 1 last false false -",
         ),
     ] {
         let words = list(alloc, words)?;

@@ -31,6 +31,7 @@ pub fn refusal<'a>(words: &'a WordList, fault: WordFault) -> RefusalText<'a>
             ("A6 bad value ", word, " for ", before)
         }
         WordCode::A7 => ("A7 extra word ", word, "", ""),
+        WordCode::A8 => ("A8 ratio above 1 with --moments 2", "", "", ""),
     };
     RefusalText {
         front,

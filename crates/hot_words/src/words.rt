@@ -9,15 +9,17 @@ use crate::job::Command;
 use crate::table::name_of;
 use crate::word_list::WordList;
 
-/// The command that the words give, or the first refusal from the left. The first word is the command: `forces`,
-/// `split`, `make` or `sample`. Behind it stand its options, each at most once and in any order, and for `forces` and
-/// `split` a file as the last word (standard input where there is none). It takes no memory.
+/// The command that the words give, or the first refusal from the left. The first word is the
+/// command: `forces`, `split`, `make` or `sample`. Behind it stand its options, each at most once
+/// and in any order, and for `forces` and `split` a file as the last word (standard input where
+/// there is none). It takes no memory.
 ///
 /// All commands but `make` have `--ranks N` (1 to 64; 1). `forces` and `sample` have `--theta N/N`
-/// (0 to 1,024 over 1 to 1,024; 7/10), `--eps N` (1 to 268,435,456; 256), `--leaf N` (1 to 64; 8)
-/// and `--mail` (`prompt`, `last`, `single`, or the number of a seed; `prompt`). `forces` has
-/// `--form` (`text` or `sdf`; `text`) and `--report`. `make` and `sample` have `--bodies N` (0 to
-/// 262,144; 1000) and `--seed N` (0). N is 1 to 20 ASCII digits whose value fits 64 bits.
+/// (0 to 1,024 over 1 to 1,024; 7/10), `--eps N` (1 to 268,435,456; 256), `--leaf N` (1 to 64; 8),
+/// `--moments N` (1 or 2; 1, and 2 only with a ratio of at most 1) and `--mail` (`prompt`, `last`,
+/// `single`, or the number of a seed; `prompt`). `forces` has `--form` (`text` or `sdf`; `text`)
+/// and `--report`. `make` and `sample` have `--bodies N` (0 to 262,144; 1000) and `--seed N` (0). N
+/// is 1 to 20 ASCII digits whose value fits 64 bits.
 pub fn read_words<'a>(words: &'a WordList) -> Result<Command<'a>, WordFault>
     ensures value { MatchResult result (λ command. command_of words.now ≡ Ok (command_value command))
         (λ fault. command_of words.now ≡ Err fault) }

@@ -1,5 +1,4 @@
 -- The lemmas that the functions name.
-use Rattle.std.proofs.lemmas.Nat.{mul-le}
 use Rattle.std.proofs.lemmas.List.{take_more}
 use Rattle.local_tree.proofs.Growing.{mass-push}
 use Rattle.local_tree.proofs.Searches.{count-le, place-low, place-high, count-rises}
@@ -7,8 +6,6 @@ use Rattle.local_tree.proofs.Searches.{count-le, place-low, place-high, count-ri
 pub ruleset on_search = (count-le, place-low, place-high)
 
 pub ruleset on_places = (count-le, count-rises)
-
-pub ruleset on_sums = (mul-le)
 
 pub ruleset on_listed = (take_more)
 

@@ -5,10 +5,7 @@ use Rattle.hot_model.specs.Limits.{max_all_mass}
 use Rattle.hot_model.specs.Values.{BodyValue, CellValue}
 use Rattle.hot_model.specs.Trees.{mass_of, record_at}
 use Rattle.hot_model.specs.Order.{IsInOrder}
-use Rattle.hot_model.specs.World.{IsBody}
 use Rattle.morton_key.specs.Ranges.{IsBodyKey}
-use Rattle.local_tree.specs.declared.sums.Sums.{Sums}
-use Rattle.local_tree.specs.Sums.{IsSummed}
 
 -- the bodies of a piece in order, the nearest keys of other bodies on either side, and the leaf limit
 pub record PieceValue : Type 0 where
@@ -17,14 +14,12 @@ pub record PieceValue : Type 0 where
   pub right : Option ℕ
   pub leaf : ℕ
 
--- what a tree of a piece keeps: bodies in order, their running sums, the neighbours' keys, and true records by ascending key
-pub record IsLocal (bodies : List BodyValue) (sums : List Sums) (recs : List CellValue) (left right : Option ℕ) : Type 0 where
-  pub sound : All IsBody bodies
+-- what a tree of a piece keeps: bodies in order, the neighbours' keys, and true records by ascending key
+pub record IsLocal (bodies : List BodyValue) (recs : List CellValue) (left right : Option ℕ) : Type 0 where
   pub in_order : IsInOrder bodies
   pub few : length bodies < 2 ^ 32
   pub light : mass_of bodies ≤ max_all_mass
   pub left_is : IfSome left IsBodyKey
   pub right_is : IfSome right IsBodyKey
-  pub summed : IsSummed sums bodies
   pub rising : IsNonDecreasingBy (λ r. r.key) recs
   pub known : All (λ r. record_at bodies r.key ≡ Some r) recs

@@ -8,7 +8,6 @@ mod places;
 mod record;
 #[cfg(test)]
 mod samples;
-mod sums;
 #[cfg(test)]
 mod tests;
 mod tree;

@@ -12,9 +12,9 @@ ghost use Rattle.morton_key.specs.Ranges.{IsBodyKey};
 use crate::list::{listed, push_some};
 use crate::places::{child_of, front, places};
 use crate::record::{find, is_greater};
-use crate::sums::{Sums, record_between, running};
 use hot_model::limits::MAX_LEVEL;
 use hot_model::{Answer, Body, CellRec, RecList, covers, level};
+use moments::of_inside;
 use morton_key::parent;
 use std::alloc::{AllocError, Global};
 use std::marker::Model;
@@ -24,7 +24,6 @@ use std::marker::Model;
 #[derive(Drop)]
 pub struct LocalTree {
     bodies: Vec<Body>,
-    sums: Vec<Sums>,
     recs: Vec<CellRec>,
     left: Option<u64>,
     right: Option<u64>,
@@ -39,14 +38,14 @@ impl Model for LocalTree {
 
     ghost view = { λ t. record { bodies = t.bodies.items; left = t.left; right = t.right; leaf = t.leaf } };
 
-    ghost invariant = { λ t. IsLocal t.bodies.items t.sums.items t.recs.items t.left t.right };
+    ghost invariant = { λ t. IsLocal t.bodies.items t.recs.items t.left t.right };
 }
 
 /// At most so many records a body stand in the table.
 const RECORDS: usize = 2;
 
-// a body, its sums and its records
-const _: () = prove!(size_of::<Body>() + size_of::<Sums>() + RECORDS * size_of::<CellRec>() <= 288);
+// a body and its records
+const _: () = prove!(size_of::<Body>() + RECORDS * size_of::<CellRec>() <= 400);
 
 /// Whether a cell does not contain a neighbouring key, if there is one.
 fn keeps_out(cell: u64, neighbour: Option<u64>) -> bool
@@ -61,9 +60,10 @@ fn keeps_out(cell: u64, neighbour: Option<u64>) -> bool
 }
 
 impl LocalTree {
-    /// The tree of a piece: of bodies in order by key and row, fewer than 2^32 and with a mass of at most 2^40 together.
-    /// `left` and `right` are the nearest keys of other bodies on either side, if there are any; `leaf` is the number of
-    /// bodies up to which a cell is a leaf. A refusal is want of memory; the tree takes 288 bytes a body.
+    /// The tree of a piece: of bodies in order by key and row, fewer than 2^32 and with a mass of
+    /// at most 2^40 together. `left` and `right` are the nearest keys of other bodies on either
+    /// side, if there are any; `leaf` is the number of bodies up to which a cell is a leaf. A
+    /// refusal is want of memory; the tree takes at most 400 bytes a body.
     pub fn build(
         alloc: Global,
         piece: &[Body],
@@ -78,12 +78,10 @@ impl LocalTree {
         requires light { trees.mass_of piece.now ≤ max_all_mass }
         ensures value { IfOk result (λ t. t ≡ record { bodies = piece.now; left = left; right = right; leaf = leaf }) }
     {
-        let sums = running(alloc, piece)?;
         let bodies = Vec::from_slice(alloc, piece)?;
         let recs = Vec::with_capacity(alloc, RECORDS * piece.len())?;
         let mut tree = LocalTree {
             bodies,
-            sums,
             recs,
             left,
             right,
@@ -145,7 +143,7 @@ impl LocalTree {
         }
     }
 
-    /// The record of a cell by the running sums at the two ends of its bodies.
+    /// The record of a cell, added up from its bodies.
     fn summed(&self, key: u64) -> Option<CellRec>
         requires cell { IsCell key }
         ensures value { result ≡ trees.record_at self.now.bodies key }
@@ -154,15 +152,13 @@ impl LocalTree {
         if from == to {
             return None;
         }
-        let before = &self.sums[from];
-        let after = &self.sums[to];
-        Some(record_between(key, (to - from) as u32, before, after))
+        Some(of_inside(key, &self.bodies[from..to]))
     }
 
     /// The record of a cell over the bodies of the piece: their count and mass, and the sums of
     /// mass times coordinate. None exactly where the piece has no body there. A cell in the table
-    /// (those that a walk meets, up to two records a body) is found by one binary search, any other
-    /// by that and two more among the bodies, and no body is summed. It takes no memory.
+    /// (those that a walk meets, up to two records a body) is found by one binary search; of any
+    /// other the bodies are found by two more and added up. It takes no memory.
     pub fn rec(&self, key: u64) -> Option<CellRec>
         requires cell { IsCell key }
         ensures value { result ≡ trees.record_at self.now.bodies key }

@@ -12,6 +12,12 @@ joined a b = record {
   sx = a.sx + b.sx;
   sy = a.sy + b.sy;
   sz = a.sz + b.sz;
+  sxx = a.sxx + b.sxx;
+  syy = a.syy + b.syy;
+  szz = a.szz + b.szz;
+  sxy = a.sxy + b.sxy;
+  sxz = a.sxz + b.sxz;
+  syz = a.syz + b.syz;
 }
 
 -- the records of two lists of bodies, added up, are the record of both lists together

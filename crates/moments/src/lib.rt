@@ -3,9 +3,11 @@
 #![tactic(auto)]
 
 mod laws;
+mod lists;
 mod sums;
 #[cfg(test)]
 mod tests;
 
 pub use laws::sums_join;
+pub use lists::of_inside;
 pub use sums::{add, empty, of_body};

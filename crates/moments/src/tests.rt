@@ -1,9 +1,14 @@
 use crate::{add, empty, of_body};
-use hot_model::{Body, CellRec, body_of};
+use hot_model::{CellRec, body_of, covers};
 
 /// A record as count, mass and the three sums.
 fn numbers(rec: &CellRec) -> (u32, u64, u128, u128, u128) {
     (rec.count, rec.mass, rec.sx, rec.sy, rec.sz)
+}
+
+/// The six product sums of a record: xx, yy, zz, xy, xz, yz.
+fn products(rec: &CellRec) -> [u128; 6] {
+    [rec.sxx, rec.syy, rec.szz, rec.sxy, rec.sxz, rec.syz]
 }
 
 /// The record of the root with one body, or with none where the numbers are out of range.
@@ -18,13 +23,18 @@ fn of_place(x: u32, y: u32, z: u32, mass: u32) -> CellRec {
 #[test]
 fn sums_of_two_bodies(rt: HostRuntime) {
     assert_eq!(rt; numbers(&empty(8)), (0, 0, 0, 0, 0));
-    assert_eq!(rt; numbers(&of_place(5, 7, 11, 2)), (1, 2, 10, 14, 22));
+    let one = of_place(5, 7, 11, 2);
+    assert_eq!(rt; numbers(&one), (1, 2, 10, 14, 22));
+    assert_eq!(rt; products(&one), [50, 98, 242, 70, 110, 154]);
     let mut both = of_place(0, 0, 0, 1);
     let far = of_place(1024, 0, 0, 3);
     if both.count == 1 && far.count == 1 && both.mass < 8 && far.mass < 8 {
-        add(&mut both, &far);
+        if covers(both.key, far.key) {
+            add(&mut both, &far);
+        }
     }
     assert_eq!(rt; numbers(&both), (2, 4, 3072, 0, 0));
+    assert_eq!(rt; products(&both), [3_145_728, 0, 0, 0, 0, 0]);
     assert_eq!(rt; both.key, 1);
     assert_eq!(rt; both.centre(), [768, 0, 0]);
 }

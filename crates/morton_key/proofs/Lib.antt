@@ -2,3 +2,4 @@ pub mod Numbers
 pub mod KeyLaws
 pub mod Places
 pub mod Hints
+pub mod Axes

@@ -1,9 +1,10 @@
 -- The laws of keys.
 use Rattle.std.specs.Prelude.{ℕ, ◌≡◌, ◌+◌, ◌<◌, ◌≤◌, ◌↔◌, true, List, sum_by, take, drop}
 use Rattle.hot_model.specs.Limits.{max_level}
-use Rattle.hot_model.specs.Values.{BodyValue, Point}
-use Rattle.hot_model.specs.Keys.{HasLevel, IsCell, level, covers}
+use Rattle.hot_model.specs.Values.{BodyValue, Point, place}
+use Rattle.hot_model.specs.Keys.{HasLevel, IsCell, level, covers, contains, IsInBox}
 use Rattle.hot_model.specs.Trees.{inside, digits, child}
+use Rattle.hot_model.specs.World.{IsBody}
 use Rattle.hot_model.specs.Order.{IsInOrder}
 use Rattle.morton_key.specs.Ranges.{IsBodyKey, IsPlaceOf, first_key, last_key, count_below}
 
@@ -34,3 +35,7 @@ OneLevelEach = (k l m : ℕ) → HasLevel k l → HasLevel k m → l ≡ m
 -- the bodies of a cell are a range of a list in key order
 abbrev pub BodiesStandTogether : Type 0
 BodiesStandTogether = (bodies : List BodyValue) (c : ℕ) → IsCell c → IsInOrder bodies → inside bodies c ≡ drop (count_below (first_key c) bodies) (take (count_below (last_key c + 1) bodies) bodies)
+
+-- a cell contains exactly the bodies in its box
+abbrev pub BoxOfACell : Type 0
+BoxOfACell = (c : ℕ) (b : BodyValue) → IsCell c → IsBody b → (contains c b ≡ true) ↔ IsInBox c (place b)

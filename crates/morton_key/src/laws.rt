@@ -36,3 +36,10 @@ pub fn one_level_each()
 pub fn bodies_stand_together()
     ensures law { laws.BodiesStandTogether }
 {}
+
+/// A cell is a box: it contains exactly the bodies whose coordinates are from its corner on and
+/// below its corner plus its side.
+#[tactic(auto, using(crate::proofs::Axes::box_of_a_cell))]
+pub fn box_of_a_cell()
+    ensures law { laws.BoxOfACell }
+{}

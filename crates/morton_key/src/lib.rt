@@ -3,6 +3,7 @@
 //! Nothing here takes memory.
 #![tactic(auto)]
 
+mod boxes;
 mod family;
 mod key;
 mod laws;
@@ -10,11 +11,12 @@ mod range;
 #[cfg(test)]
 mod tests;
 
+pub use boxes::corner;
 pub use family::{child, parent};
 pub use hot_model::{covers, level};
 pub use key::{is_cell, key_of};
 pub use laws::{
-    bodies_stand_together, body_keys_are_of_places, children_part_a_cell, children_share_sums,
-    one_level_each, range_of_a_cell,
+    bodies_stand_together, body_keys_are_of_places, box_of_a_cell, children_part_a_cell,
+    children_share_sums, one_level_each, range_of_a_cell,
 };
 pub use range::{first_key, last_key};

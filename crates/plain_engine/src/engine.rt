@@ -1,4 +1,4 @@
-ghost use Rattle.std.specs.Prelude.{◌≡◌, ◌<◌, ◌≤◌, ◌↔◌, IsSome, IfSome};
+ghost use Rattle.std.specs.Prelude.{◌≡◌, ◌<◌, ◌≤◌, ◌↔◌, IsSome, IfSome, false};
 ghost use Rattle.hot_model.specs.Limits.{max_ratio, max_softening, max_leaf};
 
 use crate::fold_of;
@@ -8,8 +8,8 @@ use hot_model::{Acc3, Body, ForceEngine};
 use std::alloc::{AllocError, Global};
 use std::marker::Model;
 
-/// The reference engine: for each body one recursive walk that filters the bodies of each cell for
-/// its children. Every other engine answers the same forces.
+/// The reference engine, of first order: for each body one recursive walk that filters the bodies
+/// of each cell for its children. Every other engine answers the same forces.
 #[derive(Drop)]
 pub struct PlainEngine {
     ratio: Ratio,
@@ -18,13 +18,13 @@ pub struct PlainEngine {
 }
 
 impl Model for PlainEngine {
-    ghost use Rattle.std.specs.Prelude.{◌≤◌};
+    ghost use Rattle.std.specs.Prelude.{◌≤◌, false};
     ghost use Rattle.hot_model.specs.Trees.{Settings};
     ghost use Rattle.hot_model.specs.Limits.{max_leaf};
 
     ghost Value = { Settings };
 
-    ghost view = { λ e. record { num = e.ratio.num; den = e.ratio.den; eps = e.eps; leaf = e.leaf } };
+    ghost view = { λ e. record { num = e.ratio.num; den = e.ratio.den; eps = e.eps; leaf = e.leaf; second = false } };
 
     ghost invariant = { λ e. (1 ≤ e.leaf) × (e.leaf ≤ max_leaf) };
 }
@@ -35,7 +35,7 @@ impl PlainEngine {
     /// None exactly where a number is out of its limit. It takes no memory.
     pub fn new(ratio_num: u32, ratio_den: u32, eps: u32, leaf: u32) -> Option<PlainEngine>
         ensures in_limits { IsSome result ↔ ((ratio_num ≤ max_ratio) × (1 ≤ ratio_den) × (ratio_den ≤ max_ratio) × (1 ≤ eps) × (eps ≤ max_softening) × (1 ≤ leaf) × (leaf ≤ max_leaf)) }
-        ensures settings { IfSome result (λ e. e ≡ record { num = ratio_num; den = ratio_den; eps = eps; leaf = leaf }) }
+        ensures settings { IfSome result (λ e. e ≡ record { num = ratio_num; den = ratio_den; eps = eps; leaf = leaf; second = false }) }
     {
         let ratio = Ratio::new(ratio_num, ratio_den)?;
         let eps = Eps::new(eps)?;

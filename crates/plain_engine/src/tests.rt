@@ -1,8 +1,9 @@
 ghost use Rattle.std.specs.Prelude.{◌≤◌, length};
 ghost use Rattle.hot_model.specs.Limits.{max_bodies};
 
-use crate::PlainEngine;
 use crate::list::list_of;
+use crate::{PlainEngine, fold_of};
+use fixed_kernel::{Eps, ForceVisit, Ratio};
 use hot_model::{Acc3, ForceEngine};
 use std::alloc::{AllocError, Global};
 use std::process::Abort;
@@ -68,4 +69,40 @@ fn worked_forces(rt: HostRuntime) {
     let want = [[127, 0, 0], [0, 0, 0], [0, 0, 0]];
     forces_are(&rt, alloc, PlainEngine::new(1, 1, 1, 1), &pair, &want);
     forces_are(&rt, alloc, PlainEngine::new(7, 10, 256, 8), &[], &[]);
+}
+
+/// The forces along x on bodies given by x, y, z and mass, by the reference walk of first or second
+/// order with ratio 1, softening 1 and leaf limit 1.
+#[tactic(auto, using(crate::proofs::Hints::on_rows))]
+fn along_x(
+    rt: &impl Abort,
+    alloc: Global,
+    second: bool,
+    rows: &[[u32; 4]],
+) -> Result<Vec<i128>, AllocError>
+    requires { length rows.now ≤ max_bodies }
+{
+    let ratio = Ratio::new(1, 1).expect(rt, "a ratio");
+    let eps = Eps::new(1).expect(rt, "a softening");
+    let visit = if second {
+        ForceVisit::with_second(ratio, eps).expect(rt, "a ratio of at most 1")
+    } else {
+        ForceVisit::new(ratio, eps)
+    };
+    let bodies = list_of(alloc, rows)?;
+    let mut forces = Vec::new(alloc);
+    for b in &bodies {
+        forces.push(fold_of(&visit, alloc, &bodies, 1, b)?.ax)?;
+    }
+    Ok(forces)
+}
+
+#[test]
+fn worked_second_order(rt: HostRuntime) {
+    let rows = [[0, 0, 0, 1], [512, 0, 0, 4_194_304], [768, 0, 0, 4_194_304]];
+    let near = [70_367_397_827_599, -70_367_403_886_018];
+    for (second, first) in [(true, 25_220_089_743_732), (false, 22_517_943_161_405)] {
+        let forces = along_x(&rt, rt.alloc(), second, &rows).expect(&rt, "memory");
+        assert_eq!(rt; forces.as_slice(), [first, near[0], near[1]].as_slice());
+    }
 }

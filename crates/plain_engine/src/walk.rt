@@ -3,9 +3,10 @@ ghost use Rattle.hot_model.specs.Limits.{max_all_mass};
 ghost use Rattle.hot_model.specs.Keys.{IsCell};
 ghost use Rattle.hot_model.specs.Trees.{added, terms_of, fold_of as fold_over, mass_of, cell_record, Near, inside as bodies_in};
 
-use crate::cells::{inside, record_of};
+use crate::cells::inside;
 use hot_model::limits::MAX_LEVEL;
 use hot_model::{Body, CellRec, Seen, Visit, level};
+use moments::of_inside;
 use std::alloc::{AllocError, Global};
 
 /// Adds each of the bodies.
@@ -36,7 +37,7 @@ fn known(alloc: Global, bodies: &[Body], cell: u64) -> Result<(Vec<Body>, CellRe
     ensures sums { IfOk result (λ r. r.1 ≡ cell_record bodies.now cell) }
 {
     let kept = inside(alloc, bodies, cell)?;
-    let rec = record_of(cell, &kept);
+    let rec = of_inside(cell, bodies);
     Ok((kept, rec))
 }
 

@@ -104,12 +104,13 @@ impl<V: Visit> Rank<V> {
         Ok(Rank { state, walk })
     }
 
-    /// One step. The first tells the branches of the rank to each other one. Every step reads the whole inbox, answers
-    /// all that is asked there, and, once the branches of all ranks were read, starts the walk or goes on with it and
-    /// asks the owners for the cells that it lacks (after Warren and Salmon, 1993: latency is hidden by asking for remote
-    /// cells in batches while the walk goes on). The outbox gets branches, then answers, then asks, each by ascending
-    /// receiver and at most one letter of a kind for each. Where memory is refused the rank is starved, and from then on
-    /// `step` and `take` refuse and change nothing.
+    /// One step. The first tells the branches of the rank to each other one. Every step reads the
+    /// whole inbox, answers all that is asked there, and, once the branches of all ranks were read,
+    /// starts the walk or goes on with it and asks the owners for the cells that it lacks (after
+    /// Warren and Salmon, 1993: latency is hidden by asking for remote cells in batches while the
+    /// walk goes on). The outbox gets branches, then answers, then asks, each by ascending receiver
+    /// and at most one letter of a kind for each. Where memory is refused the rank is starved, and
+    /// from then on `step` and `take` refuse and change nothing.
     pub fn step(&mut self) -> Result<(), AllocError>
         requires fits { FitsAWorld V.Visit V.Acc.Seen self.old }
         ensures step { Stepped V.opens_by (StandsIn V.Visit V.Acc.Seen) self.old self.new }

@@ -23,9 +23,10 @@ pub struct PostRefused {
 /// What carries letters from rank to rank. It gives out each posted letter once, in any order and
 /// at any time.
 ///
-/// A wire keeps the letters that are pending, a log of what happened since the last `begin`, and the mail of that
-/// `begin`. It is a device without faults: want of memory in `post` is its one refusal. It tells under which mails it
-/// is eager, and then it gives all letters before a round ends.
+/// A wire keeps the letters that are pending, a log of what happened since the last `begin`, and
+/// the mail of that `begin`. It is a device without faults: want of memory in `post` is its one
+/// refusal. It tells under which mails it is eager, and then it gives all letters before a round
+/// ends.
 pub trait Wire {
     /// What the wire holds.
     ghost desk: { Self → Desk };

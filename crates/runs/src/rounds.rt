@@ -206,10 +206,11 @@ fn one_round<R: Threads + Sync, V: Visit, M: Wire, G: Gate>(
 /// their receivers, which read them in the next round. After the last round each rank is finished,
 /// and nothing is pending.
 ///
-/// For each such visit and world the log is legal whenever the call ends; and at Ok it is complete, and the ranks still
-/// stand for the world. With `R` ranks and `C` cells that some body opens or that are branches, there are at most
-/// `(R - 1)(R + 2C) + 1` rounds; and at most 44 where each round takes all letters that were posted before, as under a mail
-/// for which the wire is eager. The wire keeps its mail.
+/// For each such visit and world the log is legal whenever the call ends; and at Ok it is complete,
+/// and the ranks still stand for the world. With `R` ranks and `C` cells that some body opens or
+/// that are branches, there are at most `(R - 1)(R + 2C) + 1` rounds; and at most 44 where each
+/// round takes all letters that were posted before, as under a mail for which the wire is eager.
+/// The wire keeps its mail.
 ///
 /// The error is want of memory alone, of a rank or of the wire. The list of ranks keeps its length,
 /// and letters may be pending.

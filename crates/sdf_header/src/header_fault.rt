@@ -27,8 +27,8 @@ pub enum ParamName {
 /// from 0.
 ///
 /// The order of faults: `NoMagic`; `TooLong` or `NoEnd`; of `Syntax`, `UnknownType`, `NameTwice`,
-/// `SecondStruct` and `TooWide` the one with the smallest place (of two at one place `NameTwice`); then
-/// `NoStruct`, `Missing`, `NotWhole`, `BadParameter` and `TooMany`.
+/// `SecondStruct` and `TooWide` the one with the smallest place (of two at one place `NameTwice`);
+/// then `NoStruct`, `Missing`, `NotWhole`, `BadParameter` and `TooMany`.
 #[derive(Clone, Copy, Debug, PartialEq, Eq)]
 pub enum HeaderFault {
     /// The input does not begin with `# SDF`.

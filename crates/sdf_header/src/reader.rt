@@ -90,8 +90,9 @@ impl HeaderReader {
 
     /// Takes the next piece of the input, which may be empty. It takes no memory.
     ///
-    /// `Ended(n)` says that the header ends with the piece's first `n` bytes; later calls answer `Ended(0)`.
-    /// The fault is `NoMagic` or `TooLong`, as soon as the bytes so far show it, and comes again at each call.
+    /// `Ended(n)` says that the header ends with the piece's first `n` bytes; later calls answer
+    /// `Ended(0)`. The fault is `NoMagic` or `TooLong`, as soon as the bytes so far show it, and
+    /// comes again at each call.
     pub fn feed(&mut self, piece: &[u8]) -> Result<Fed, HeaderFault>
         ensures answer { result ≡ told (extent (self.old ++ piece.now)) (length self.old) }
         ensures taken { IfOk result (λ fed. self.new ≡ self.old ++ taken_of fed piece.now) }

@@ -19,7 +19,22 @@ fn forces_of_files(rt: HostRuntime) -> Result<(), Fail> {
     let twins = [
         0, 0, 0, 1, 1_048_576, 0, 0, 4_194_304, 1_048_576, 0, 0, 4_194_304,
     ];
+    let near = [0, 0, 0, 1, 2, 0, 0, 4_194_304, 3, 0, 0, 4_194_304];
     for (words, columns, count, numbers, lines) in [
+        (
+            "forces --eps 1 --leaf 1 --theta 1/1 --moments 2",
+            MASSES,
+            b"3".as_slice(),
+            near.as_slice(),
+            b"# hot forces 1\n0 25220089743732 0 0\n1 70367397827599 0 0\n2 -70367403886018 0 0\n# end 3\n".as_slice(),
+        ),
+        (
+            "forces --eps 1 --leaf 1 --theta 1/1 --moments 1",
+            MASSES,
+            b"3".as_slice(),
+            near.as_slice(),
+            b"# hot forces 1\n0 22517943161405 0 0\n1 70367397827599 0 0\n2 -70367403886018 0 0\n# end 3\n".as_slice(),
+        ),
         (WORDS, MASSES, b"2".as_slice(), PAIR.as_slice(), PULLS),
         (WORDS, MASSES, b"".as_slice(), PAIR.as_slice(), PULLS),
         (

@@ -158,6 +158,10 @@ fn refused_words(rt: HostRuntime) -> Result<(), Fail> {
         ("", b"hot: A1 no command\n".as_slice()),
         ("weigh", b"hot: A2 unknown command weigh\n".as_slice()),
         (
+            "forces --theta 2/1 --moments 2",
+            b"hot: A8 ratio above 1 with --moments 2\n".as_slice(),
+        ),
+        (
             "make --theta 1/1",
             b"hot: A3 unknown option --theta\n".as_slice(),
         ),

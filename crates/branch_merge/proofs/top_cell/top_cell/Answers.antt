@@ -15,6 +15,9 @@ run-from-requires-clause-outside c = top_outside c.args.listed.now c.args.cell c
 pub added_up-requires-clause-light : goal.added_up-requires-clause-light
 added_up-requires-clause-light c = subst AreLight c.run-from.ensures.covered (light_part (λ (x : Listed). covers c.args.cell x.rec.key) c.args.listed.now c.requires.light)
 
+pub added_up-requires-clause-below : goal.added_up-requires-clause-below
+added_up-requires-clause-below c = subst (AreBelow c.args.cell) c.run-from.ensures.covered (top_below c.args.listed.now c.args.cell c.requires.sorted.cells c.requires.apart c.requires.top)
+
 pub children-requires-clause-sorted : goal.children-requires-clause-sorted
 children-requires-clause-sorted c = subst AreSorted c.run-from.ensures.covered (sorted_part c.args.cell c.args.listed.now c.requires.sorted)
 

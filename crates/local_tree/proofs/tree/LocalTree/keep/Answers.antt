@@ -16,13 +16,11 @@ invariant_of-self-in-Some c =
     let yes : IsTrue c.is_greater.result = search rules in
     let greater : (d : CellValue) → 0 < length recs → key_in (get_or recs (length recs - 1) d) < c.args.key = rw c.deref.ensures.value at (c.is_greater.ensures.value.0 yes) in
     record {
-      sound = c.self.invariant.sound;
       in_order = c.self.invariant.in_order;
       few = c.self.invariant.few;
       light = c.self.invariant.light;
       left_is = c.self.invariant.left_is;
       right_is = c.self.invariant.right_is;
-      summed = c.self.invariant.summed;
       rising = rw c.in_ok-push-in-Some.ensures.items (rising-push recs r c.self.invariant.rising (λ d h. omega (arith, key, greater d h)));
       known = rw c.in_ok-push-in-Some.ensures.items (known-push xs c.args.key recs r c.self.invariant.known made);
     }

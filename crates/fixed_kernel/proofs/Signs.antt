@@ -1,0 +1,35 @@
+-- Products of signed numbers as code has them.
+use Rattle.std.proofs.Common.{ℕ, List, get_or, refl, ℤ, pos, ◌*ℤ◌, ◌≡◌, ◌*◌, ◌^◌, ◌≤◌, ◌<◌, nat_abs, arith, ◌∙◌}
+use Rattle.std.proofs.lemmas.Int.{to_z-of_z}
+use mir.Syntax.{w128}
+use mir.Val.{SFits, of_z, to_z}
+use Rattle.hot_model.specs.Values.{CellValue, Products}
+use Rattle.hot_model.specs.Kernel.{centre, coordinates}
+use Rattle.hot_model.specs.Second.{trunc, spread_along, spread}
+use Rattle.hot_model.proofs.Signed.{fits_small}
+use Rattle.hot_model.proofs.Second.{abs-times, trunc-small, same_products}
+
+-- a product as it is stored
+pub times-stored : (a b : ℤ) (m n : ℕ) → SFits w128 a → SFits w128 b → nat_abs a ≤ m → nat_abs b ≤ n → m * n < 2 ^ 127 → to_z w128 (of_z w128 (to_z w128 (of_z w128 a) *ℤ to_z w128 (of_z w128 b))) ≡ a *ℤ b
+times-stored a b m n f g h k l =
+    let p = fits_small (a *ℤ b) (m * n) (abs-times a b m n h k) l in
+    rw (to_z-of_z w128 a f, to_z-of_z w128 b g) (to_z-of_z w128 (a *ℤ b) p)
+
+pub five-stored : (g n : ℤ) → SFits w128 g → SFits w128 n → nat_abs g ≤ 2 ^ 86 → nat_abs n ≤ 2 ^ 20 → to_z w128 (of_z w128 (to_z w128 (of_z w128 (pos 5 *ℤ to_z w128 (of_z w128 g))) *ℤ to_z w128 (of_z w128 n))) ≡ pos 5 *ℤ g *ℤ n
+five-stored g n f e h k =
+    let a = abs-times (pos 5) g 5 (2 ^ 86) (omega arith) h in
+    let b = abs-times (pos 5 *ℤ g) n (5 * 2 ^ 86) (2 ^ 20) a k in
+    let p = fits_small (pos 5 *ℤ g) (5 * 2 ^ 86) a (omega arith) in
+    let q = fits_small (pos 5 *ℤ g *ℤ n) (5 * 2 ^ 86 * 2 ^ 20) b (omega arith) in
+    rw (to_z-of_z w128 g f, to_z-of_z w128 (pos 5 *ℤ g) p, to_z-of_z w128 n e) (to_z-of_z w128 (pos 5 *ℤ g *ℤ n) q)
+
+pub five-small : (g n : ℤ) → nat_abs g ≤ 2 ^ 86 → nat_abs n ≤ 2 ^ 20 → nat_abs (trunc (pos 5 *ℤ g *ℤ n) (2 ^ 21)) ≤ 2 ^ 88
+five-small g n h k =
+    let a = abs-times (pos 5) g 5 (2 ^ 86) (omega arith) h in
+    let b = abs-times (pos 5 *ℤ g) n (5 * 2 ^ 86) (2 ^ 20) a k in
+    trunc-small (pos 5 *ℤ g *ℤ n) (2 ^ 21) (2 ^ 88) (omega (arith, b))
+
+-- the spread by its numbers
+pub spread-is : (c : CellValue) (at : List ℕ) (p : Products) → at ≡ coordinates (centre c) → p.xx ≡ spread_along c.mass (get_or at 0 0) (get_or at 0 0) c.sx c.sx c.sxx → p.yy ≡ spread_along c.mass (get_or at 1 0) (get_or at 1 0) c.sy c.sy c.syy → p.zz ≡ spread_along c.mass (get_or at 2 0) (get_or at 2 0) c.sz c.sz c.szz → p.xy ≡ spread_along c.mass (get_or at 0 0) (get_or at 1 0) c.sx c.sy c.sxy → p.xz ≡ spread_along c.mass (get_or at 0 0) (get_or at 2 0) c.sx c.sz c.sxz → p.yz ≡ spread_along c.mass (get_or at 1 0) (get_or at 2 0) c.sy c.sz c.syz → p ≡ spread c
+unfolding spread
+spread-is c at p e a b d f g h = same_products p _ (a ∙ rw e refl) (b ∙ rw e refl) (d ∙ rw e refl) (f ∙ rw e refl) (g ∙ rw e refl) (h ∙ rw e refl)

@@ -1,0 +1,6 @@
+use Rattle.std.proofs.Common.{◌≡◌, ◌/◌, ◌-◌, ◌^◌}
+use Rattle.hot_model.specs.Keys.{bits_along}
+use Rattle.morton_key.proofs.boxes.bits_along.Given as goal
+
+abbrev pub invariant-loop-done : goal.invariant-loop-done
+invariant-loop-done l = l.bits ≡ bits_along l.done (l.key / 8 ^ (l.digits - l.done)) l.axis
