@@ -9,12 +9,13 @@ from reference.words import read
 
 MOST_SAMPLED = 200  # bodies of a sample, for the second computation's sake
 COMMANDS = ["forces", "split", "make", "sample"]
-OPTIONS = ["--ranks", "--theta", "--eps", "--leaf", "--mail", "--form", "--bodies", "--seed", "--report"]
+OPTIONS = ["--ranks", "--theta", "--eps", "--leaf", "--moments", "--mail", "--form", "--bodies", "--seed", "--report"]
 GOOD = {
     "--ranks": ["1", "01", "1", "1", "2", "64"],
-    "--theta": ["0/1", "7/10", "1024/1024", "1/0001", "1/1024", "00/1"],
+    "--theta": ["0/1", "7/10", "1024/1024", "1/0001", "1/1024", "00/1", "3/2"],
     "--eps": ["1", "268435456", "256", "00000000000000000007"],
     "--leaf": ["1", "8", "64"],
+    "--moments": ["1", "2", "2", "02"],
     "--mail": ["prompt", "prompt", "last", "single", "0", "18446744073709551615"],
     "--form": ["text", "text", "sdf"],
     "--bodies": ["0", "10", "33", "01", "262144"],
@@ -41,7 +42,7 @@ def good_words(rng, command="forces"):
     """Words of a good call, or nearly."""
     if command == "split":
         return split_words(rng)
-    options = ["--theta", "--eps", "--leaf", "--ranks", "--mail"]
+    options = ["--theta", "--eps", "--leaf", "--ranks", "--mail", "--moments"]
     words = [[option, rng.choice(GOOD[option])] for option in rng.sample(options, rng.randint(0, 4))]
     if rng.random() < 0.3:
         words.insert(rng.randint(0, len(words)), rng.choice([["--report"], ["--form", "text"]]))
@@ -64,13 +65,13 @@ def random_words(rng):
     words = [rng.choice([*COMMANDS, "forces", "forces", "forces"])]
     pool, count = OPTIONS, rng.choice([0, 1, 1, 2, 2, 3, 5])
     if words[0] == "forces" and rng.random() < 0.8:
-        pool = OPTIONS[:6] + OPTIONS[8:]
+        pool = OPTIONS[:7] + OPTIONS[9:]
     elif words[0] == "split" and rng.random() < 0.8:
         pool, count = ["--ranks"], rng.choice([0, 1, 1, 1, 2])
     elif words[0] == "make" and rng.random() < 0.8:
         pool, count = ["--bodies", "--seed"], rng.choice([0, 1, 1, 2, 2])
     elif words[0] == "sample" and rng.random() < 0.8:
-        pool = [*OPTIONS[:5], "--bodies", "--bodies", "--seed"]
+        pool = [*OPTIONS[:6], "--bodies", "--bodies", "--seed"]
     for _ in range(count):
         option = rng.choice(pool)
         words.append(option)

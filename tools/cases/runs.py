@@ -57,6 +57,10 @@ def run_words(rng):
         ("--eps", pick_eps(rng), 0.8),
         ("--leaf", pick_leaf(rng), 0.9),
     ]
+    if rng.random() < 0.55:  # at second order a ratio above 1 is refused, and a smaller one accepts more with leaves of one
+        ratio = rng.choice(["1/1", "1/1", "7/10", "1/2", pick_ratio(rng)])
+        pairs[2] = ("--theta", ratio, 0.95)
+        pairs.append(("--moments", 2, 1))
     rng.shuffle(pairs)
     return [str(word) for option, value, chance in pairs if rng.random() < chance for word in (option, value)]
 

@@ -73,8 +73,18 @@ ONE_MADE = "af8002001d410300cf5e1300"
 NO_SAMPLE = "sample bodies 0 seed {} ranks {} opened 0 asks 0 cells 0 letters {} rounds {} sum 0 0 0\n"
 ONE_SAMPLE = "sample bodies 1 seed 0 ranks {} opened 1 asks 0 cells 1 letters {} rounds {} sum 0 0 0\n"
 
+# A body before two others that lie in a cell of side 512 at its corner: beyond the side, their second moments count
+NEAR = file_of(MASS, (0, 0, 0, 1), (2, 0, 0, 4194304), (3, 0, 0, 4194304))
+NEAR_FORCES = "1 70367397827599 0 0", "2 -70367403886018 0 0"
+WIDE = "hot: A8 ratio above 1 with --moments 2\n"
+
 # words, standard input, output, error stream
 RUNS = [
+    *[
+        (f"forces --eps 1 --leaf 1 --theta 1/1 --moments {moments} --ranks {ranks}", NEAR, forces(first, *NEAR_FORCES), "")
+        for moments, first in ((1, "0 22517943161405 0 0"), (2, "0 25220089743732 0 0"))
+        for ranks in (1, 2, 3)
+    ],
     *[(f"{TWO_WORDS} --mail {mail}", TWO, TWO_FORCES, "") for mail in ("prompt", "last", "single", "5")],
     (f"{TWO_WORDS} --report", TWO, TWO_FORCES, two_report(4)),
     (f"{TWO_WORDS} --report --mail last", TWO, TWO_FORCES, two_report(4)),
@@ -179,6 +189,8 @@ ENOUGH = [
 ]
 LATER = "forces --form sdf;forces --report --form sdf --ranks 2;forces --form sdf nowhere;forces --mail 0 --form sdf"
 
+TOO_WIDE = "forces --theta 2/1 --moments 2;sample --moments 2 --theta 1024/1023;forces --moments 2 --theta 8/7 nowhere"
+
 
 def as_bytes(text):
     return text if isinstance(text, bytes) else text.encode()
@@ -190,6 +202,7 @@ def worked_runs():
     cases += [(words, data, room, 5, out, err) for words, data, room, out, err in ROOMS]
     cases += [(words, data, room, 0, out, err) for words, data, room, out, err in ENOUGH]
     cases += [(words, b"", {}, 2, "", "hot: A0 words of a later stage\n") for words in LATER.split(";")]
+    cases += [(words, b"", {}, 2, "", WIDE) for words in TOO_WIDE.split(";")]
     for words, data, room, status, out, err in cases:
         yield Case("worked", words.split(), data, room=room), (status, as_bytes(out), as_bytes(err))
     yield Case("worked", ["forces", "--ranks", "4"], HALF_READ, broken=True), (4, b"", b"hot: read fault\n")

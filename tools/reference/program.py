@@ -10,6 +10,8 @@ from reference.rows import bodies
 from reference.split import split_text
 from reference.words import is_of_later, read
 
+FORCES = ["--eps", "--theta", "--leaf", "--moments"]  # the options by which the forces are
+
 
 def line(text):
     return f"hot: {text}\n".encode()
@@ -23,14 +25,14 @@ def is_decided(refused, data):
 
 def results_of(found, options):
     """The force on each body and the cells that it opens."""
-    return Walk(found, options["--eps"], options["--theta"], options["--leaf"]).results()
+    return Walk(found, *(options[name] for name in FORCES)).results()
 
 
 @cache
-def sampled(count, seed, eps, theta, leaf):
+def sampled(count, seed, *forces):
     """Generated bodies and their results."""
     found = made_bodies(count, seed)
-    return found, Walk(found, eps, theta, leaf).results()
+    return found, Walk(found, *forces).results()
 
 
 def without_file(command, options):
@@ -38,7 +40,7 @@ def without_file(command, options):
     count, seed = options["--bodies"], options["--seed"]
     if command == "make":
         return 0, made_file(count, seed), b""
-    pair = sampled(count, seed, options["--eps"], options["--theta"], options["--leaf"])
+    pair = sampled(count, seed, *(options[name] for name in FORCES))
     return 0, sample_text(*pair, options).encode(), b""
 
 

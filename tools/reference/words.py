@@ -3,15 +3,16 @@
 from reference.header import Refused
 
 COMMANDS = {
-    "forces": ["--ranks", "--theta", "--eps", "--leaf", "--mail", "--form", "--report"],
+    "forces": ["--ranks", "--theta", "--eps", "--leaf", "--moments", "--mail", "--form", "--report"],
     "split": ["--ranks"],
     "make": ["--bodies", "--seed"],
-    "sample": ["--bodies", "--seed", "--ranks", "--theta", "--eps", "--leaf", "--mail"],
+    "sample": ["--bodies", "--seed", "--ranks", "--theta", "--eps", "--leaf", "--moments", "--mail"],
 }
 LIMITS = {
     "--ranks": (1, 64),
     "--eps": (1, 268435456),
     "--leaf": (1, 64),
+    "--moments": (1, 2),
     "--bodies": (0, 262144),
     "--seed": (0, 2**64 - 1),
 }
@@ -20,6 +21,7 @@ DEFAULTS = {
     "--theta": (7, 10),
     "--eps": 256,
     "--leaf": 8,
+    "--moments": 1,
     "--mail": "prompt",
     "--form": "text",
     "--report": False,
@@ -83,7 +85,11 @@ def read(words):
             raise Refused(f"A6 bad value {words[at]} for {word}")
         options[word] = value
         at += 1
-    return command, {**DEFAULTS, **options}, file
+    options = {**DEFAULTS, **options}
+    num, den = options["--theta"]
+    if options["--moments"] == 2 and num > den:
+        raise Refused("A8 ratio above 1 with --moments 2")
+    return command, options, file
 
 
 def is_of_later(options):
