@@ -6,29 +6,38 @@ ghost use Rattle.branch_merge.specs.Merged.{AreLight};
 
 use crate::listed::gathered;
 use crate::{Listed, Top};
-use hot_model::limits::{FINE_BITS, MAX_ALL_MASS, MAX_RANKS};
-use hot_model::{CellRec, RecList, covers};
+use hot_model::limits::{MAX_ALL_MASS, MAX_RANKS};
+use hot_model::{CellRec, RecList, body_of, covers};
+use moments::{add, empty, of_body};
 use morton_key::is_cell;
 use std::alloc::{AllocError, Global};
 
-/// A record as key, count, mass and the three sums.
-pub type Numbers = (u64, u32, u64, u128, u128, u128);
+/// A cell by its key, and the places and masses of its bodies.
+pub type Cell<'a> = (u64, &'a [(u32, u32, u32, u32)]);
 
-/// The record with these numbers, if they are those of a record.
-fn record_of(n: &Numbers) -> Option<CellRec> {
-    let (key, count, mass, sx, sy, sz) = *n;
-    if !is_cell(key) || count == 0 || u64::from(count) > mass || mass > MAX_ALL_MASS {
+/// The record of a cell over bodies, if they are its own and not too heavy.
+fn record_of(cell: &Cell<'_>) -> Option<CellRec> {
+    let (key, bodies) = *cell;
+    if !is_cell(key) {
         return None;
     }
-    let most = u128::from(mass) * ((1 << FINE_BITS) - 1);
-    if sx > most || sy > most || sz > most {
-        return None;
+    let mut rec = empty(key);
+    for (x, y, z, mass) in bodies {
+        let b = body_of(*x, *y, *z, *mass, 0)?;
+        if !covers(key, b.key) {
+            return None;
+        }
+        let one = of_body(key, &b);
+        if !covers(rec.key, one.key) || rec.count > 1000 || rec.mass + one.mass > MAX_ALL_MASS {
+            return None;
+        }
+        add(&mut rec, &one);
     }
-    Some(CellRec::new(key, count, mass, sx, sy, sz))
+    Some(rec)
 }
 
-/// The list of the records with these numbers.
-pub fn list_of(alloc: Global, rows: &[Numbers]) -> Result<RecList, AllocError> {
+/// The list of the records of these cells.
+pub fn list_of(alloc: Global, rows: &[Cell<'_>]) -> Result<RecList, AllocError> {
     let mut list = RecList::new(alloc);
     for row in rows {
         if let Some(rec) = record_of(row) {
