@@ -11,7 +11,7 @@ mod range;
 mod tests;
 
 pub use family::{child, parent};
-pub use hot_model::{covers, level};
+pub use hot_model::{Spread, covers, level};
 pub use key::{is_cell, key_of};
 pub use laws::{
     bodies_stand_together, body_keys_are_of_places, children_part_a_cell, children_share_sums,
