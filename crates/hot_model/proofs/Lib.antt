@@ -1,4 +1,5 @@
 pub mod Digits
+pub mod Spreads
 pub mod Keys
 pub mod Roots
 pub mod Pulls

@@ -1,6 +1,7 @@
 pub mod Limits
 pub mod Values
 pub mod Keys
+pub mod Spread
 pub mod Kernel
 pub mod Second
 pub mod Trees

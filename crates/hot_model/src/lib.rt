@@ -10,6 +10,7 @@ pub mod limits;
 mod list;
 mod mail;
 mod part;
+mod spread;
 #[cfg(test)]
 mod tests;
 mod visit;
@@ -21,4 +22,5 @@ pub use engine::ForceEngine;
 pub use list::{Answer, AnswerList, Answered, BodyList, Items, KeyList, RecList};
 pub use mail::Mail;
 pub use part::Part;
+pub use spread::Spread;
 pub use visit::{Seen, Visit};

@@ -1,4 +1,4 @@
-use crate::{child, first_key, is_cell, key_of, last_key, level, parent};
+use crate::{Spread, child, first_key, is_cell, key_of, last_key, level, parent};
 
 const FIRST_BODY: u64 = 9_223_372_036_854_775_808;
 
@@ -12,6 +12,14 @@ fn worked_keys(rt: HostRuntime) {
         (256, 512, 512, 9_223_372_036_854_775_836),
     ] {
         assert_eq!(rt; key_of(x, y, z), want, "at {x} {y} {z}");
+    }
+}
+
+#[test]
+fn worked_entries(rt: HostRuntime) {
+    let bytes = Spread::of_bytes();
+    for (byte, want) in [(0, 0), (1, 1), (2, 8), (3, 9), (128, 2_097_152), (255, 2_396_745)] {
+        assert_eq!(rt; bytes.entry(byte), want, "of {byte}");
     }
 }
 
