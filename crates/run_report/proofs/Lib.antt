@@ -2,4 +2,5 @@
 pub mod Joins
 pub mod CellsInPlay
 pub mod Reports
+pub mod Openings
 pub mod Sums

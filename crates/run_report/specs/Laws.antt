@@ -1,14 +1,17 @@
 -- What the numbers of a report count.
-use Rattle.std.specs.Prelude.{ℕ, Bool, Contains, ◌↔◌, ◌⊎◌}
+use Rattle.std.specs.Prelude.{ℕ, ◌≤◌, Bool, eqb, count_by, Contains, ◌↔◌, ◌⊎◌}
 use Rattle.std.specs.List.Sorted.{IsStrictlyIncreasing}
 use Rattle.hot_model.specs.Values.{BodyValue, CellValue}
+use Rattle.hot_model.specs.Trees.{opened}
 use Rattle.hot_model.specs.World.{World, IsGood}
 use Rattle.hot_model.specs.Branches.{IsBranch}
 use Rattle.hot_model.specs.Needs.{Needs, needed, met_cells}
 use Rattle.rank_walk.specs.Efforts.{IsOpenedBy}
 
--- the cells that a rank asks for are those that it needs, each once; the cells in play are those that some body opens and the branches, each once
+-- a body opens no cell twice; the cells that a rank asks for are those that it needs, each once; the cells in play are those
+-- that some body opens and the branches, each once
 pub record AreCounted (opens : BodyValue → CellValue → Bool) (w : World) : Type 0 where
+  pub opened_once : (b : BodyValue) (c : ℕ) → count_by (eqb c) (opened (opens b) w.leaf w.bodies) ≤ 1
   pub asks_once : (q : ℕ) → IsStrictlyIncreasing (needed opens w q)
   pub asks : (q c : ℕ) → Contains (needed opens w q) c ↔ Needs opens w q c
   pub cells_once : IsStrictlyIncreasing (met_cells opens w)
