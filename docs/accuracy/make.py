@@ -1,0 +1,274 @@
+#!/usr/bin/env python3
+"""Makes the tables of docs/ACCURACY.md anew in their places, and the pictures beside this script.
+
+usage: docs/accuracy/make.py [--program PATH] [--count N] [--most N] [PART..]
+
+PART is a part of the page: ratio, leaf, scale, time, ranks, field; without one all are made. The program is the one that
+`./hot` built. N bodies of each system are taken for the errors (4000), and up to `--most` for the times (50000). It wants
+NumPy and matplotlib, and takes some minutes.
+"""
+
+import argparse
+import re
+import sys
+import time
+from pathlib import Path
+
+HERE = Path(__file__).resolve().parent
+TOP = HERE.parents[1]
+sys.path.insert(0, str(TOP / "python"))
+
+import matplotlib
+import numpy as np
+
+import hotbodies
+from hotbodies.bodies import body_bytes
+from hotbodies.direct import Errors, direct_accelerations, relative_errors
+from hotbodies.limits import FINE_BITS, KEY_LEVELS
+from hotbodies.run import ProgramError, file_forces, run_program
+from hotbodies.samples import SAMPLES
+from hotbodies.scale import Scale
+
+matplotlib.use("Agg")
+import matplotlib.pyplot as plt
+
+PAGE = TOP / "docs" / "ACCURACY.md"
+RATIOS = ("1/10", "2/10", "3/10", "4/10", "5/10", "6/10", "7/10", "8/10", "9/10", "1/1", "6/5")
+SHOWN = ("1/10", "3/10", "5/10", "7/10", "9/10", "6/5")
+LEAVES = (1, 4, 8, 16, 32, 64)
+SIDES = range(29, 12, -1)  # of a box, as powers of two of units
+SHOWN_SIDES = range(29, 12, -2)
+MASSES = (4_194_304, 1_024)
+COUNTS = (1_000, 2_000, 5_000, 10_000, 20_000, 50_000, 100_000, 200_000)
+EPS = 0.01
+plt.rcParams.update({"svg.hashsalt": "hot", "font.size": 9, "figure.constrained_layout.use": True})
+
+
+def share(number):
+    return "0" if number == 0 else f"{number:.1e}"
+
+
+def table(names, rows):
+    """The lines of a table: its names, and its rows of texts."""
+    lines = [names, ["---"] + ["---:"] * (len(names) - 1), *rows]
+    return ["| " + " | ".join(map(str, line)) + " |" for line in lines]
+
+
+def save(figure, name):
+    """Writes a picture beside this script: curves as SVG, points as PNG."""
+    options = {"metadata": {"Date": None}} if name.endswith(".svg") else {"dpi": 110}
+    figure.savefig(HERE / name, **options)
+    plt.close(figure)
+    print(f"  docs/accuracy/{name}: {(HERE / name).stat().st_size // 1024} KB", flush=True)
+
+
+class Pages:
+    """The parts of the page, each of which gives the lines of its table."""
+
+    def __init__(self, program, count, most):
+        self.program, self.count, self.most = program, count, most
+
+    def forces(self, data, scale, theta=0.7, **options):
+        options = {"softening": scale.softening(EPS), "program": self.program} | options
+        return file_forces(data, scale, theta, **options).accelerations()
+
+    def takes_moments(self):
+        """Whether this program has `--moments`, by which a cell pulls with its second moments too."""
+        data, scale = body_bytes([[0, 0, 0], [1, 0, 0]], 1.0, eps=EPS)
+        try:
+            self.forces(data, scale, more=["--moments", 2])
+        except ProgramError as error:
+            if error.code != "A3":
+                raise
+            return False
+        return True
+
+    def ratio(self):
+        orders = (1, 2) if self.takes_moments() else (1,)
+        figure, axes = plt.subplots(1, len(SAMPLES), figsize=(10, 3.4), sharey=True)
+        rows = []
+        for axis, (name, make) in zip(axes, SAMPLES.items()):
+            data, scale = body_bytes(*make(self.count, 1), eps=EPS)
+            truth = self.forces(data, scale, theta=0)
+            found = {
+                (ratio, order): Errors.of(relative_errors(self.forces(data, scale, ratio, more=more), truth))
+                for order in orders
+                for more in [["--moments", order] if order > 1 else []]
+                for ratio in RATIOS
+                if order == 1 or eval_ratio(ratio) <= 1
+            }
+            for order in orders:
+                known = [ratio for ratio in RATIOS if (ratio, order) in found]
+                label = "" if len(orders) == 1 else f", moments {order}"
+                values = [eval_ratio(ratio) for ratio in known]
+                axis.semilogy(values, [found[ratio, order].most for ratio in known], "o-", ms=3, label=f"99 %{label}")
+                axis.semilogy(values, [found[ratio, order].median for ratio in known], "s-", ms=3, label=f"median{label}")
+            axis.set(title=name, xlabel="opening ratio")
+            axis.grid(alpha=0.3)
+            for ratio in SHOWN:
+                cells = [
+                    share(number) if (ratio, order) in found else ""
+                    for order in orders
+                    for number in numbers(found.get((ratio, order)))
+                ]
+                rows.append([name, f"{eval_ratio(ratio):g}", *cells])
+        axes[0].set_ylabel("relative error")
+        axes[0].legend()
+        save(figure, "ratio.svg")
+        heads = ["median", "99 %", "largest"]
+        return table(["bodies", "ratio", *heads, *([f"{head}, moments 2" for head in heads] * (len(orders) - 1))], rows)
+
+    def leaf(self):
+        rows = []
+        for name, make in SAMPLES.items():
+            data, scale = body_bytes(*make(self.count, 1), eps=EPS)
+            truth = self.forces(data, scale, theta=0)
+            for leaf in LEAVES:
+                errors = Errors.of(relative_errors(self.forces(data, scale, leaf=leaf), truth))
+                rows.append([name, leaf, *map(share, numbers(errors))])
+        return table(["bodies", "leaf", "median", "99 %", "largest"], rows)
+
+    def scale(self):
+        positions, _ = SAMPLES["uniform box"](self.count // 2, 1)
+        truth = direct_accelerations(positions, 1.0, EPS)
+        found = {}
+        for side in SIDES:
+            for mass in MASSES:
+                scale = Scale(2.0**-side, 1 / mass, (-(2 ** (FINE_BITS - 1)),) * 3)
+                data, _ = body_bytes(positions * (1 - 2.0**-20), 1.0, scale=scale)
+                found[side, mass] = Errors.of(relative_errors(self.forces(data, scale, theta=0), truth))
+        best, chosen = body_bytes(positions, 1.0, eps=EPS)
+        errors = Errors.of(relative_errors(self.forces(best, chosen, theta=0), truth))
+        width = np.log2(np.ptp(positions, axis=0).max() / chosen.length)
+        figure, axis = plt.subplots(figsize=(6, 3.4))
+        for mass in MASSES:
+            axis.semilogy(SIDES, [found[side, mass].median for side in SIDES], "o-", ms=3, label=f"masses of {mass:,}")
+        axis.semilogy([width], [errors.median], "*", ms=12, label="what the package chooses")
+        axis.set(xlabel="side of the box, as a power of two of fine units", ylabel="median of the relative error")
+        axis.grid(alpha=0.3)
+        axis.legend()
+        save(figure, "scale.svg")
+        rows = [
+            [f"2^{side}", *(share(number) for mass in MASSES for number in numbers(found[side, mass])[:2])]
+            for side in SHOWN_SIDES
+        ]
+        rows.append([f"2^{width:.1f}, chosen", share(errors.median), share(errors.most), "", ""])
+        heads = [f"{head}, masses {mass:,}" for mass in MASSES for head in ("median", "99 %")]
+        return table(["side of the box", *heads], rows)
+
+    def time(self):
+        counts = [count for count in COUNTS if count <= self.most]
+        rows, taken = [], {}
+        for name, make in SAMPLES.items():
+            for count in counts:
+                data, scale = body_bytes(*make(count, 1), eps=EPS)
+                words = ["forces", "--theta", "7/10", "--eps", scale.softening(EPS)]
+                best = np.inf
+                for _ in range(3 if count <= 10_000 else 1):
+                    begin = time.perf_counter()
+                    run_program(words, data, self.program)
+                    best = min(best, time.perf_counter() - begin)
+                taken[name, count] = best
+        figure, axis = plt.subplots(figsize=(6, 3.4))
+        for name in SAMPLES:
+            axis.loglog(counts, [taken[name, count] for count in counts], "o-", ms=3, label=name)
+        axis.set(xlabel="bodies", ylabel="seconds, one rank, ratio 0.7")
+        axis.grid(alpha=0.3)
+        axis.legend()
+        save(figure, "time.svg")
+        rows = [[f"{count:,}", *(f"{taken[name, count]:.2f}" for name in SAMPLES)] for count in counts]
+        return table(["bodies", *SAMPLES], rows)
+
+    def ranks(self):
+        positions, masses = SAMPLES["two clusters"](self.count, 1)
+        data, scale = body_bytes(positions, masses, eps=EPS)
+        text = run_program(["split", "--ranks", 8], data, self.program).decode()
+        owners = rank_of_bodies(text, data)
+        figure, axis = plt.subplots(figsize=(7, 4.6))
+        points = axis.scatter(*positions[:, :2].T, c=owners, s=3, cmap=plt.get_cmap("tab10", 10), vmin=-0.5, vmax=9.5)
+        figure.colorbar(points, ax=axis, label="rank", ticks=range(8), boundaries=np.arange(-0.5, 8))
+        axis.set(xlim=(-4, 8), ylim=(-4, 5), aspect="equal", xlabel="x", ylabel="y")
+        save(figure, "ranks.png")
+        lines = [line.split() for line in text.splitlines() if line.startswith("rank ")]
+        return table(["rank", "bodies", "branch cells"], [[line[1], line[3], line[7]] for line in lines])
+
+    def field(self):
+        bodies = hotbodies.read_bodies(TOP / "examples" / "cluster.sdf")
+        data = (TOP / "examples" / "cluster.sdf").read_bytes()
+        pulls = file_forces(data, bodies.scale, softening=1, program=self.program).accelerations()
+        sizes = np.linalg.norm(pulls, axis=1)
+        figure, axis = plt.subplots(figsize=(6, 4.6))
+        ways = pulls[:, :2] / np.maximum(np.linalg.norm(pulls[:, :2], axis=1), 1e-300)[:, None]
+        axis.scatter(*bodies.positions[:, :2].T, s=bodies.masses / bodies.masses.max() * 60, color="0.6")
+        arrows = axis.quiver(
+            *bodies.positions[:, :2].T, *ways.T, np.log10(sizes), angles="xy", width=0.005, scale=18, cmap="viridis"
+        )
+        figure.colorbar(arrows, ax=axis, label="log10 of the acceleration, per unit mass, G = 1")
+        axis.set(aspect="equal", xlabel="x, units of the file", ylabel="y, units of the file")
+        save(figure, "field.svg")
+        return []
+
+
+def eval_ratio(ratio):
+    number, over = map(int, ratio.split("/"))
+    return number / over
+
+
+def numbers(errors):
+    """The three numbers of errors, three empty ones where there are none."""
+    return [0.0] * 3 if errors is None else [errors.median, errors.most, errors.largest]
+
+
+def body_keys(data):
+    """The keys of the bodies of a file, uint64: 1, and then an octal digit 4 x + 2 y + z for each level."""
+    bodies = hotbodies.read_bodies(data)
+    places = np.stack([bodies.rows[axis].astype(np.int64) for axis in "xyz"], axis=1) - np.array(bodies.scale.corner)
+    fine = places << FINE_BITS - bodies.scale.bits
+    keys = np.ones(len(fine), dtype=np.uint64)
+    for level in range(1, KEY_LEVELS + 1):
+        bits = (fine >> FINE_BITS - level & 1).astype(np.uint64)
+        keys = keys * np.uint64(8) + bits @ np.array([4, 2, 1], dtype=np.uint64)
+    return keys
+
+
+def rank_of_bodies(text, data):
+    """The rank of each body of a file, by the branch cells that a split shows."""
+    branches = {}
+    for line in text.splitlines():
+        words = line.split()
+        if words[0] == "branch":
+            branches[int(words[1])] = int(words[3])
+    ranks = []
+    for key in body_keys(data).tolist():
+        while key not in branches:
+            key >>= 3
+        ranks.append(branches[key])
+    return np.array(ranks)
+
+
+def put(page, name, lines):
+    """The page with the lines of a table between its two marks."""
+    marks = re.compile(rf"(<!-- {name} -->\n).*?(<!-- end of {name} -->)", re.S)
+    if not marks.search(page):
+        sys.exit(f"docs/ACCURACY.md has no place for the table {name}")
+    return marks.sub(lambda found: found[1] + "".join(f"{line}\n" for line in lines) + found[2], page)
+
+
+def main():
+    parts = ("ratio", "leaf", "scale", "time", "ranks", "field")
+    parser = argparse.ArgumentParser()
+    parser.add_argument("--program", default=str(TOP / "crates" / "hot" / "out" / "hot"))
+    parser.add_argument("--count", type=int, default=4000)
+    parser.add_argument("--most", type=int, default=50_000)
+    parser.add_argument("parts", nargs="*", metavar="PART", help=" ".join(parts))
+    options = parser.parse_args()
+    pages = Pages(options.program, options.count, options.most)
+    for part in options.parts or parts:
+        print(part, flush=True)
+        lines = getattr(pages, part)()
+        if lines:
+            PAGE.write_text(put(PAGE.read_text(encoding="utf-8"), part, lines), encoding="utf-8")
+
+
+if __name__ == "__main__":
+    main()

@@ -1,0 +1,35 @@
+"""Accelerations of bodies by the proved gravity program `hot`, from and to NumPy arrays.
+
+    import hotbodies
+    pulls = hotbodies.accelerations(positions, masses, theta=0.7, eps=0.01)
+
+`accelerations` chooses the scale between physical units and the program's whole numbers, runs it, and gives the answer in
+physical units. `write_bodies`, `read_bodies` and `read_forces` do the parts of it with files.
+"""
+
+from .bodies import Bodies, read_bodies, write_bodies
+from .direct import Errors, direct_accelerations, relative_errors
+from .forces import Forces, read_forces
+from .header import FormatError
+from .run import ProgramError, ProgramMissing, accelerations, file_forces, find_program
+from .scale import LossError, Scale, choose_scale
+
+__all__ = [
+    "Bodies",
+    "Errors",
+    "Forces",
+    "FormatError",
+    "LossError",
+    "ProgramError",
+    "ProgramMissing",
+    "Scale",
+    "accelerations",
+    "choose_scale",
+    "direct_accelerations",
+    "file_forces",
+    "find_program",
+    "read_bodies",
+    "read_forces",
+    "relative_errors",
+    "write_bodies",
+]
