@@ -198,12 +198,14 @@ def check_shell(name, text):
             if first == "cd":
                 folder = os.path.normpath(os.path.join(folder, part[1]))
             at = os.path.join(TOP, folder)
-            if not (shutil.which(first) or first in BUILTINS or os.access(os.path.join(at, first), os.X_OK) or help_of_rt() is None):
+            is_there = shutil.which(first) or first in BUILTINS or os.access(os.path.join(at, first), os.X_OK)
+            if not is_there and not (first == "rt" and help_of_rt() is None):
                 tell(name, f"there is no command {first}")
             if first == "rt" and help_of_rt() and not re.search(rf"\b{part[1]}\b", help_of_rt()):
                 tell(name, f"rt knows no {part[1]}")
             for it in part[1:] if first != "cd" else []:
-                if re.match(r"(?:\.\./)*(?:crates|tools|docs|examples)/[\w./-]*$", it) and not os.path.exists(os.path.join(at, it)):
+                is_path = re.match(r"(?:\.\./)*(?:crates|tools|docs|examples)/[\w./-]*$", it)
+                if is_path and not os.path.exists(os.path.join(at, it)):
                     tell(name, f"there is no {it}")
     if not os.path.isdir(os.path.join(TOP, folder)):
         tell(name, f"there is no folder {folder}")
