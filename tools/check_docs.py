@@ -45,8 +45,8 @@ def read(name):
 
 def documents():
     """The documents by their names from the top."""
-    found = ["README.md", "CONTRIBUTING.md", *glob.glob("docs/*.md", root_dir=TOP)]
-    return found + sorted(glob.glob("crates/*/README.md", root_dir=TOP))
+    named = lambda pattern: sorted(os.path.relpath(it, TOP) for it in glob.glob(os.path.join(TOP, pattern)))
+    return ["README.md", "CONTRIBUTING.md", *named("docs/*.md"), *named("crates/*/README.md")]
 
 
 def blocks(text):
