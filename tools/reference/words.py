@@ -84,8 +84,3 @@ def read(words):
         options[word] = value
         at += 1
     return command, {**DEFAULTS, **options}, file
-
-
-def is_of_later(options):
-    """Whether the words ask for what is not built yet."""
-    return options["--form"] == "sdf"
