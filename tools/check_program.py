@@ -2,9 +2,9 @@
 
 Usage: tools/check [--program PATH | --try] [--cases N] [--seed S]
 
-The cases are those worked by hand, files at the limits, streams that fail or have little room, and N random ones:
-runs over ranks with weights, mails and reports, generated bodies and samples, body files of every layout, trees cut on
-many ranks, changed headers, spoilt rows, and lists of words. Output, error stream and status are compared. The program
+The cases are those worked by hand, files at the limits, streams that fail or have little room, a hundred random files
+whose forces are written as SDF, and N random ones: runs over ranks with weights, mails and reports, generated bodies
+and samples, body files of every layout, trees cut on many ranks, changed headers, spoilt rows, and lists of words. Output, error stream and status are compared. The program
 is the built one, which `./hot` builds where it is not built yet; with --try it is the same source without proof
 (`rt try`), over N of all these cases that take no file, no stream that fails, no odd word and not too many bodies, and
 print lines. N is 1300, and 60 with --try.
@@ -28,7 +28,7 @@ from cases.calls import good_words, random_call
 from cases.faults import long_header, mutated_header, plain_file, spoilt_rows, wide_header
 from cases.large import large_cases, largest
 from cases.layouts import pick_file
-from cases.runs import make_case, run_case, sample_case
+from cases.runs import make_case, run_case, sample_case, sdf_case
 from cases.splits import split_case
 from cases.worked import worked
 from cases.worked_runs import worked_runs
@@ -36,6 +36,7 @@ from reference.program import answer
 from unproved import can_try, run_unproved
 
 TOP = os.path.dirname(os.path.dirname(os.path.abspath(__file__)))
+SDF_CASES = 100  # random files whose forces are written as SDF
 MAX_BROKEN = 1024  # bytes that a terminal holds
 MOST_SHOWN = 10000  # bytes of a text that differs
 STREAMS = ["out", "err"]
@@ -161,7 +162,8 @@ def gather(rng, count):
         if answer(case) != wanted:
             sys.exit(f"the second computation is wrong at {case}: {answer(case)} for {wanted}")
         pairs.append((case, wanted))
-    cases = stream_cases(rng) + limit_cases(rng) + large_cases() + [random_case(rng) for _ in range(count)]
+    cases = stream_cases(rng) + limit_cases(rng) + large_cases() + [sdf_case(rng) for _ in range(SDF_CASES)]
+    cases += [random_case(rng) for _ in range(count)]
     with ProcessPoolExecutor() as pool:
         pairs += zip(cases, pool.map(answer, cases, chunksize=8))
     pairs += largest()

@@ -14,7 +14,8 @@ def can_try(case):
     plain = all(word.strip() == word != "" and "\n" not in word and "{}" not in word for word in words)
     if case.kind == "large" or case.files or case.room or case.broken or len(case.stdin) >= 1 << 19:
         return False
-    return bool(words) and plain and len(words) == len(case.words) and words[0] != "make"
+    prints_lines = words[:1] != ["make"] and "sdf" not in words
+    return bool(words) and plain and len(words) == len(case.words) and prints_lines
 
 
 def run_unproved(top, cases):

@@ -45,7 +45,7 @@ def good_words(rng, command="forces"):
     options = ["--theta", "--eps", "--leaf", "--ranks", "--mail", "--moments"]
     words = [[option, rng.choice(GOOD[option])] for option in rng.sample(options, rng.randint(0, 4))]
     if rng.random() < 0.3:
-        words.insert(rng.randint(0, len(words)), rng.choice([["--report"], ["--form", "text"]]))
+        words.insert(rng.randint(0, len(words)), rng.choice([["--report"], ["--form", "text"], ["--form", "sdf"]]))
     return [command, *[word for option in words for word in option]]
 
 

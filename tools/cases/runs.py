@@ -124,6 +124,14 @@ def run_case(rng):
     return Case("run", words, data)
 
 
+def sdf_case(rng):
+    """A run whose forces are written as SDF, on any layout or on a tight cluster, where they are strong."""
+    words = [["--form", "sdf"], run_words(rng), ["--report"] if rng.random() < 0.3 else []]
+    rng.shuffle(words)
+    data = any_file(rng) if rng.random() < 0.5 else cluster_file(rng)
+    return Case("sdf", ["forces", *(word for part in words for word in part)], data)
+
+
 def seed_words(rng):
     seed = rng.choice([0, 1, 7, 2**63, 2**64 - 1, rng.getrandbits(64), rng.randrange(1000)])
     return ["--seed", str(seed)] if rng.random() < 0.9 else []

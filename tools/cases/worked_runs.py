@@ -1,7 +1,9 @@
 """Cases of runs over ranks, reports, generated bodies and streams with little room, whose answers are known by hand."""
 
+import struct
+
 from cases import Case
-from cases.worked import BARE, HALVES, MASS, ROW_OF_THREE, SAME, TWO, file_of, forces
+from cases.worked import BARE, HALVES, HEAD, MASS, ROW_OF_THREE, SAME, TWO, file_of, forces
 
 TWO_WORDS = "forces --eps 1 --theta 0/1 --ranks 2"
 TWO_FORCES = forces("0 3145725 0 0", "1 -1048575 0 0")
@@ -55,6 +57,34 @@ FAR_REPORTS = {
     1: report([(1, 2, 0), (1, 2, 0)], {8: 0, 12: 1}, 2, 2, 3, 9),
     2: report([(1, 1, 1), (1, 1, 1)], {8: 0, 12: 1}, 6, 4, 3, 9),
 }
+
+
+SDF_HEAD = """# SDF
+parameter byteorder = 0x78563412;
+struct {{
+  int64_t ident_hi;
+  uint64_t ident_lo;
+  int64_t ax_hi;
+  uint64_t ax_lo;
+  int64_t ay_hi;
+  uint64_t ay_lo;
+  int64_t az_hi;
+  uint64_t az_lo;
+}}[{count}];
+# SDF-EOH
+"""
+
+
+def sdf(*rows):
+    """A file of forces of these rows of eight halves."""
+    return SDF_HEAD.format(count=len(rows)).encode() + b"".join(struct.pack("<" + "qQ" * 4, *row) for row in rows)
+
+
+TWO_SDF = sdf((0, 0, 0, 3145725, 0, 0, 0, 0), (0, 1, -1, 0xFFFFFFFFFFF00001, 0, 0, 0, 0))
+# 32 heavy bodies pull one of mass 1, a fine unit away, each by 2^72 / 2896, which is together more than 2^65
+STRONG = HEAD.format(columns=MASS, count=33).replace("cube_bits = 21", "cube_bits = 29").encode()
+STRONG += struct.pack("<132i", *[0, 0, 0, 1 << 22] * 32, 1, 0, 0, 1)
+STRONG_SDF = sdf(*[(0, k, 0, 388777592141, 0, 0, 0, 0) for k in range(32)], (0, 32, -3, 3159387106546939808, 0, 0, 0, 0))
 
 
 def made(count, rows):
@@ -132,6 +162,10 @@ RUNS = [
         (f"forces --eps 1 --theta 1024/1 --ranks 2 --report --leaf {leaf}", FAR, FAR_FORCES, told)
         for leaf, told in FAR_REPORTS.items()
     ],
+    *[(f"{TWO_WORDS} --form sdf --mail {mail}", TWO, TWO_SDF, "") for mail in ("prompt", "single")],
+    (f"{TWO_WORDS} --report --form sdf -", TWO, TWO_SDF, two_report(4)),
+    ("forces --form sdf --eps 1 --theta 0/1", STRONG, STRONG_SDF, ""),
+    ("forces --form sdf", file_of(BARE), sdf(), ""),
     ("forces --ranks 2 --report", file_of(BARE), forces(), report([(0, 0, 0)] * 2, {}, 2, 2, 0, 3)),
     ("forces --report", file_of(BARE), forces(), report([(0, 0, 0)], {}, 0, 1, 0, 1)),
     ("make --bodies 1 --seed 0", b"", made(1, ONE_MADE), ""),
@@ -172,6 +206,8 @@ ROOMS = [
         for room in (0, 1, 14, 15, 16, 33, 60, len(two_report(4)) - 1)
     ],
     (f"{TWO_WORDS} --report", TWO, {"out": len(TWO_FORCES) - 1}, TWO_FORCES[:-1], FAULT),
+    *[(f"{TWO_WORDS} --form sdf", TWO, {"out": room}, TWO_SDF[:room], FAULT) for room in (0, 211, 250, 300, 338)],
+    (f"{TWO_WORDS} --form sdf --report", TWO, {"out": 300}, TWO_SDF[:300], FAULT),
     ("make --bodies 1", b"", {"out": 0}, "", FAULT),
     ("make --bodies 1", b"", {"out": 110}, made(1, ONE_MADE)[:110], FAULT),
     ("sample --bodies 1", b"", {"out": 0}, "", FAULT),
@@ -187,7 +223,6 @@ ENOUGH = [
     (TWO_WORDS, TWO, {"err": 0}, TWO_FORCES, ""),
     ("make --bodies 1", b"", {"out": 116}, made(1, ONE_MADE), ""),
 ]
-LATER = "forces --form sdf;forces --report --form sdf --ranks 2;forces --form sdf nowhere;forces --mail 0 --form sdf"
 
 TOO_WIDE = "forces --theta 2/1 --moments 2;sample --moments 2 --theta 1024/1023;forces --moments 2 --theta 8/7 nowhere"
 
@@ -201,7 +236,6 @@ def worked_runs():
     cases = [(words, data, {}, 0, out, err) for words, data, out, err in RUNS]
     cases += [(words, data, room, 5, out, err) for words, data, room, out, err in ROOMS]
     cases += [(words, data, room, 0, out, err) for words, data, room, out, err in ENOUGH]
-    cases += [(words, b"", {}, 2, "", "hot: A0 words of a later stage\n") for words in LATER.split(";")]
     cases += [(words, b"", {}, 2, "", WIDE) for words in TOO_WIDE.split(";")]
     for words, data, room, status, out, err in cases:
         yield Case("worked", words.split(), data, room=room), (status, as_bytes(out), as_bytes(err))

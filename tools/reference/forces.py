@@ -2,10 +2,27 @@
 numbers."""
 
 import math
+import struct
 
 from reference.keys import FINE_BITS, LEVELS, contains, key_of, level_of
 
 AXES = range(3)
+
+
+SDF_HEAD = """# SDF
+parameter byteorder = 0x78563412;
+struct {{
+  int64_t ident_hi;
+  uint64_t ident_lo;
+  int64_t ax_hi;
+  uint64_t ax_lo;
+  int64_t ay_hi;
+  uint64_t ay_lo;
+  int64_t az_hi;
+  uint64_t az_lo;
+}}[{count}];
+# SDF-EOH
+"""
 
 
 def pull(p, c, mass, eps):
@@ -130,3 +147,10 @@ def forces_text(bodies, results):
     lines += [f"{b.ident} {ax} {ay} {az}" for b, ((ax, ay, az), _) in zip(bodies, results)]
     lines.append(f"# end {len(bodies)}")
     return "\n".join(lines) + "\n"
+
+
+def forces_sdf(bodies, results):
+    """The same as a file: each value in two halves, of which the low one is never below 0."""
+    values = [value for b, (force, _) in zip(bodies, results) for value in (b.ident, *force)]
+    halves = [half for value in values for half in divmod(value, 2**64)]
+    return SDF_HEAD.format(count=len(bodies)).encode() + struct.pack("<" + "qQ" * len(values), *halves)

@@ -2,13 +2,13 @@
 
 from functools import cache
 
-from reference.forces import Walk, forces_text
+from reference.forces import Walk, forces_sdf, forces_text
 from reference.generator import made_bodies, made_file
 from reference.header import Refused
 from reference.report import Run, report_text, sample_text
 from reference.rows import bodies
 from reference.split import split_text
-from reference.words import is_of_later, read
+from reference.words import read
 
 FORCES = ["--eps", "--theta", "--leaf", "--moments"]  # the options by which the forces are
 
@@ -50,6 +50,8 @@ def with_bodies(command, options, found):
         return 0, split_text(found, options["--ranks"]).encode(), b""
     results = results_of(found, options)
     report = report_text(Run(found, results, options)) if options["--report"] else ""
+    if options["--form"] == "sdf":
+        return 0, forces_sdf(found, results), report.encode()
     return 0, forces_text(found, results).encode(), report.encode()
 
 
@@ -59,8 +61,6 @@ def prepared(words, stdin, files, broken):
         command, options, file = read(words)
     except Refused as refused:
         return 2, b"", line(refused)
-    if is_of_later(options):
-        return 2, b"", line("A0 words of a later stage")
     if command in ("make", "sample"):
         return without_file(command, options)
     data = stdin if file == "-" else files.get(file)

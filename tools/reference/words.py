@@ -90,8 +90,3 @@ def read(words):
     if options["--moments"] == 2 and num > den:
         raise Refused("A8 ratio above 1 with --moments 2")
     return command, options, file
-
-
-def is_of_later(options):
-    """Whether the words ask for what is not built yet."""
-    return options["--form"] == "sdf"

@@ -1,2 +1,4 @@
 pub mod Idents
 pub mod ForcesText
+pub mod ForcesSdf
+pub mod SdfReader

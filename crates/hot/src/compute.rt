@@ -147,6 +147,7 @@ pub fn compute_forces<R: Threads + Sync, M: Wire, G: Gate>(
         ordered: ran.ordered,
         forces: ran.forces,
         report: ran.report,
+        sdf: job.sdf,
     })
 }
 

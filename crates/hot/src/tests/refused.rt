@@ -1,5 +1,5 @@
 // Words and files that are refused.
-use super::{AMPLE, LATER, MASSES, PAIR, PLACES, WORDS, call, check, plain_file};
+use super::{AMPLE, MASSES, PAIR, PLACES, WORDS, call, check, plain_file};
 use crate::Status;
 use std::test::Fail;
 
@@ -178,13 +178,15 @@ fn refused_words(rt: HostRuntime) -> Result<(), Fail> {
             b"hot: A6 bad value 0 for --ranks\n".as_slice(),
         ),
         ("forces a b", b"hot: A7 extra word a\n".as_slice()),
-        // a refusal of the grammar stands before the words of a later stage
         (
             "sample --ranks 0",
             b"hot: A6 bad value 0 for --ranks\n".as_slice(),
         ),
         ("forces --ranks 2 a b", b"hot: A7 extra word a\n".as_slice()),
-        ("forces --form sdf", LATER),
+        (
+            "forces --form hdf",
+            b"hot: A6 bad value hdf for --form\n".as_slice(),
+        ),
     ] {
         let ended = call(&rt, alloc, words, b"", AMPLE)?;
         check(&rt, &ended, Status::Words, b"", line);

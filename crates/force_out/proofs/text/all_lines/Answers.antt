@@ -3,7 +3,8 @@ use mir.Syntax.{w128}
 use mir.Val.{of_z, to_z}
 use Rattle.std.proofs.lemmas.Result.{err_from_is_err_and}
 use Rattle.std.proofs.KnownBytes.{Appends-trans}
-use Rattle.force_out.proofs.Lines.{body_lines-take, cut_in_line}
+use Rattle.force_out.specs.ForcesText.{body_line}
+use Rattle.force_out.proofs.Lines.{texts-take, cut_in_text}
 use Rattle.force_out.proofs.text.all_lines.Goals as goal
 
 pub returns-in_err-body_line-clause-text : goal.returns-in_err-body_line-clause-text
@@ -12,7 +13,7 @@ returns-in_err-body_line-clause-text g c =
     let i = c.loop-i.i in
     let within : i < length c.args.idents.now = omega arith in
     let read : to_z w128 (of_z w128 (get_or c.args.idents.now i (pos 0))) ≡ get_or c.args.idents.now i (pos 0) = search rules in
-    rw p.1 (cut_in_line c.args.idents.now c.args.forces.now i _ c.index-forces-i.result _ _ _ within c.loop-i-test.true read c.index-forces-i.is c.loop-i.invariant.so_far c.in_err-body_line.ensures.text)
+    rw p.1 (cut_in_text body_line c.args.idents.now c.args.forces.now i _ c.index-forces-i.result _ _ _ within c.loop-i-test.true read c.index-forces-i.is c.loop-i.invariant.so_far c.in_err-body_line.ensures.text)
 
 pub loop-i-preserved : goal.loop-i-preserved
 loop-i-preserved g c = record {
@@ -21,6 +22,6 @@ loop-i-preserved g c = record {
       let i = c.loop-i.i in
       let within : i < length c.args.idents.now = omega arith in
       let read : to_z w128 (of_z w128 (get_or c.args.idents.now i (pos 0))) ≡ get_or c.args.idents.now i (pos 0) = search rules in
-      rw (body_lines-take c.args.idents.now c.args.forces.now i (to_z w128 (of_z w128 (get_or c.args.idents.now i (pos 0)))) c.index-forces-i.result within c.loop-i-test.true read c.index-forces-i.is)
+      rw (texts-take body_line c.args.idents.now c.args.forces.now i (to_z w128 (of_z w128 (get_or c.args.idents.now i (pos 0)))) c.index-forces-i.result within c.loop-i-test.true read c.index-forces-i.is)
       (Appends-trans _ _ _ _ _ c.loop-i.invariant.so_far c.in_ok-body_line.ensures.text);
 }

@@ -1,0 +1,6 @@
+use Rattle.force_out.proofs.Halves.{one-parting}
+use Rattle.force_out.proofs.SdfReading.{all-told}
+use Rattle.force_out.proofs.sdf.values_come_back.Goals as goal
+
+pub returns : goal.returns
+returns c = record { halves = one-parting; bodies = all-told }

@@ -1,0 +1,10 @@
+use Rattle.std.proofs.Common.{◌≡◌, take}
+use Rattle.std.specs.Io.KnownBytes.{Appends}
+use Rattle.force_out.specs.ForcesSdf.{body_rows}
+use Rattle.force_out.proofs.sdf.write_rows.Given as goal
+
+abbrev pub invariant-loop-i : goal.invariant-loop-i
+invariant-loop-i g l = record {
+  unfailed : g.O.Sink.faults l.out ≡ g.O.Sink.faults l.initial.out;
+  so_far : Appends (g.O.Sink.written l.initial.out) (g.O.Sink.written l.out) (body_rows (take l.i l.idents) (take l.i l.forces));
+}

@@ -1,0 +1,273 @@
+// Forces as SDF.
+ghost use Rattle.std.specs.Prelude.{◌≡◌, ◌∷◌, [], length, All};
+ghost use Rattle.hot_io.specs.Faults.{FailsExactly};
+ghost use Rattle.hot_io.specs.Writing.{Writes};
+ghost use Rattle.force_out.specs.Idents.{IsIdent};
+ghost use Rattle.force_out.specs.ForcesSdf as sdf;
+ghost use Rattle.force_out.specs.SdfReader.{HasOneParting, TellsAllBodies};
+
+use byteorder::{ByteOrder, LittleEndian};
+use hot_io::{Failed, Sink, write_all, write_pieces};
+use hot_model::Acc3;
+use itoa::Buffer;
+
+/// What the high half of a value counts: 2^64.
+const HIGH_UNIT: i128 = 1 << 64;
+
+/// The bytes of a row: eight columns of 64 bits.
+const ROW: usize = 64;
+
+/// The high half of a value: its floor over 2^64.
+fn high_half(value: i128) -> i64
+    ensures value { result ≡ sdf.high_half value }
+{
+    value.div_euclid(HIGH_UNIT) as i64
+}
+
+/// The low half of a value: what is left of it.
+fn low_half(value: i128) -> u64
+    ensures value { result ≡ sdf.low_half value }
+{
+    value.rem_euclid(HIGH_UNIT) as u64
+}
+
+/// The two columns of a value: the bits of its high half, and its low half.
+fn columns(value: i128) -> (u64, u64)
+    ensures columns { result.0 ∷ result.1 ∷ [] ≡ sdf.columns value }
+{
+    (high_half(value).cast_unsigned(), low_half(value))
+}
+
+/// Writes the row of one body, as one piece: its ident and the three components.
+fn write_row<O: Sink>(out: &mut O, ident: i128, force: &Acc3) -> Result<(), Failed>
+    requires unfailed { O.faults out.old ≡ 0 }
+    ensures cause { FailsExactly (O.faults out.old) (O.faults out.new) result }
+    ensures row { Writes (O.written out.old) (O.written out.new) result
+        (sdf.body_row (ident, force.now)) }
+{
+    let name = columns(ident);
+    let x = columns(force.ax);
+    let y = columns(force.ay);
+    let z = columns(force.az);
+    let mut row = [0; ROW];
+    LittleEndian::write_u64_into(&[name.0, name.1, x.0, x.1, y.0, y.1, z.0, z.1], &mut row);
+    write_all(out, &row)
+}
+
+/// Writes the rows of the bodies, in the order of the slices.
+fn write_rows<O: Sink>(out: &mut O, idents: &[i128], forces: &[Acc3]) -> Result<(), Failed>
+    requires unfailed { O.faults out.old ≡ 0 }
+    requires paired { length idents.now ≡ length forces.now }
+    ensures cause { FailsExactly (O.faults out.old) (O.faults out.new) result }
+    ensures rows { Writes (O.written out.old) (O.written out.new) result
+        (sdf.body_rows idents.now forces.now) }
+{
+    for (i, force) in forces.iter().enumerate() {
+        write_row(out, idents[i], force)?;
+    }
+    Ok(())
+}
+
+/// Writes the header of a file of so many bodies.
+fn write_header<O: Sink>(out: &mut O, count: usize) -> Result<(), Failed>
+    requires unfailed { O.faults out.old ≡ 0 }
+    ensures cause { FailsExactly (O.faults out.old) (O.faults out.new) result }
+    ensures header { Writes (O.written out.old) (O.written out.new) result (sdf.header count) }
+{
+    let mut number = Buffer::new();
+    write_pieces(
+        out,
+        &[
+            b"# SDF\nparameter byteorder = 0x78563412;\nstruct {\n  int64_t ident_hi;\n  uint64_t ident_lo;\n  int64_t ax_hi;\n  uint64_t ax_lo;\n  int64_t ay_hi;\n  uint64_t ay_lo;\n  int64_t az_hi;\n  uint64_t az_lo;\n}[",
+            number.format(count).as_bytes(),
+            b"];\n# SDF-EOH\n",
+        ],
+    )
+}
+
+/// Writes the forces on the bodies as SDF: a header with the number of bodies, then for each body,
+/// in the order of the slices, a row of 64 bytes: its ident and the three components, each as a
+/// signed column `hi` and an unsigned column `lo` of 64 bits, least significant byte first.
+///
+/// A value is `hi * 2^64 + lo` with `0 <= lo < 2^64`. A component is in units of 2^-40 of mass over
+/// squared fine distance. `Failed` comes exactly where the sink's count of faults rises, and then a
+/// front of the file was written. No memory is taken, and the sink gets no empty piece.
+pub fn force_sdf<O: Sink>(out: &mut O, idents: &[i128], forces: &[Acc3]) -> Result<(), Failed>
+    requires unfailed { O.faults out.old ≡ 0 }
+    requires paired { length idents.now ≡ length forces.now }
+    requires idents { All IsIdent idents.now }
+    ensures cause { FailsExactly (O.faults out.old) (O.faults out.new) result }
+    ensures file { Writes (O.written out.old) (O.written out.new) result
+        (sdf.forces_sdf idents.now forces.now) }
+{
+    write_header(out, forces.len())?;
+    write_rows(out, idents, forces)
+}
+
+/// Laws of these files. A value has one high and one low half. A reader who takes the eight columns
+/// of a row where they stand, behind the header and the rows before it, and joins each two to
+/// `hi * 2^64 + lo`, has the ident of the row's body and the force on it, whatever numbers of 128
+/// bits they are.
+pub fn values_come_back()
+    ensures halves { HasOneParting }
+    ensures bodies { TellsAllBodies }
+{}
+
+#[cfg(test)]
+mod tests {
+    use super::*;
+    use hot_io::MemSink;
+    use std::alloc::{AllocError, Global};
+    use std::test::Fail;
+
+    /// The columns of a row, as they stand in the file.
+    type Columns<'a> = [&'a [u8; 8]; 8];
+
+    #[derive(Drop)]
+    struct Case<'a> {
+        count: &'a [u8],
+        idents: &'a [i128],
+        forces: &'a [Acc3],
+        chunk: usize,
+        room: usize,
+        rows: &'a [Columns<'a>],
+    }
+
+    const NONE: &[u8; 8] = b"\0\0\0\0\0\0\0\0";
+
+    const ONES: &[u8; 8] = b"\xff\xff\xff\xff\xff\xff\xff\xff";
+
+    const FRONT: &[u8] =
+        b"# SDF\nparameter byteorder = 0x78563412;\nstruct {\n  int64_t ident_hi;\n  uint64_t ident_lo;\n  int64_t ax_hi;\n  uint64_t ax_lo;\n  int64_t ay_hi;\n  uint64_t ay_lo;\n  int64_t az_hi;\n  uint64_t az_lo;\n}[";
+
+    /// More than any file here has.
+    const AMPLE: usize = 999;
+
+    /// The forces on two bodies of masses 1 and 3, four units apart, with softening 1.
+    const PULLS: [Acc3; 2] = [
+        Acc3 {
+            seen: 4,
+            ax: 3145725,
+            ay: 0,
+            az: 0,
+        },
+        Acc3 {
+            seen: 4,
+            ax: -1048575,
+            ay: 0,
+            az: 0,
+        },
+    ];
+
+    const PULL_ROWS: [Columns<'static>; 2] = [
+        [
+            NONE,
+            NONE,
+            NONE,
+            b"\xfd\xff\x2f\0\0\0\0\0",
+            NONE,
+            NONE,
+            NONE,
+            NONE,
+        ],
+        [
+            NONE,
+            b"\x01\0\0\0\0\0\0\0",
+            ONES,
+            b"\x01\0\xf0\xff\xff\xff\xff\xff",
+            NONE,
+            NONE,
+            NONE,
+            NONE,
+        ],
+    ];
+
+    /// A force of -2^64 - 1 in x, of -2^64 in y and of 2^64 in z.
+    const STRONG: Acc3 = Acc3 {
+        seen: 33554432,
+        ax: -18446744073709551617,
+        ay: -18446744073709551616,
+        az: 18446744073709551616,
+    };
+
+    /// The whole file of a case.
+    fn file(alloc: Global, case: &Case<'_>) -> Result<Vec<u8>, AllocError> {
+        let mut bytes = Vec::from_slice(alloc, FRONT)?;
+        bytes.extend_from_slice(case.count)?;
+        bytes.extend_from_slice(b"];\n# SDF-EOH\n")?;
+        for row in case.rows {
+            for column in row {
+                bytes.extend_from_slice(*column)?;
+            }
+        }
+        Ok(bytes)
+    }
+
+    #[test]
+    fn worked_files(rt: HostRuntime) -> Result<(), Fail> {
+        let cases = [
+            Case {
+                count: b"0",
+                idents: &[],
+                forces: &[],
+                chunk: 3,
+                room: AMPLE,
+                rows: &[],
+            },
+            Case {
+                count: b"2",
+                idents: &[0, 1],
+                forces: &PULLS,
+                chunk: 7,
+                room: AMPLE,
+                rows: &PULL_ROWS,
+            },
+            Case {
+                count: b"2",
+                idents: &[18446744073709551615, -9223372036854775808],
+                forces: &[STRONG, STRONG],
+                chunk: 64,
+                room: AMPLE,
+                rows: &[
+                    [
+                        NONE,
+                        ONES,
+                        b"\xfe\xff\xff\xff\xff\xff\xff\xff",
+                        ONES,
+                        ONES,
+                        NONE,
+                        b"\x01\0\0\0\0\0\0\0",
+                        NONE,
+                    ],
+                    [
+                        ONES,
+                        b"\0\0\0\0\0\0\0\x80",
+                        b"\xfe\xff\xff\xff\xff\xff\xff\xff",
+                        ONES,
+                        ONES,
+                        NONE,
+                        b"\x01\0\0\0\0\0\0\0",
+                        NONE,
+                    ],
+                ],
+            },
+            // a sink that fails within the second row
+            Case {
+                count: b"2",
+                idents: &[0, 1],
+                forces: &PULLS,
+                chunk: 5,
+                room: 300,
+                rows: &PULL_ROWS,
+            },
+        ];
+        for case in &cases {
+            let whole = file(rt.alloc(), case)?;
+            let mut out = MemSink::new(rt.alloc(), case.chunk, case.room as u64)?;
+            let outcome = force_sdf(&mut out, case.idents, case.forces);
+            assert_eq!(rt; outcome.is_err(), case.room < whole.len());
+            assert_eq!(rt; out.written(), &whole[..case.room.min(whole.len())]);
+        }
+        Ok(())
+    }
+}
