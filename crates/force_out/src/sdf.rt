@@ -120,22 +120,15 @@ mod tests {
     use std::alloc::{AllocError, Global};
     use std::test::Fail;
 
-    /// The columns of a row, as they stand in the file.
-    type Columns<'a> = [&'a [u8; 8]; 8];
-
     #[derive(Drop)]
     struct Case<'a> {
         count: &'a [u8],
         idents: &'a [i128],
         forces: &'a [Acc3],
         chunk: usize,
-        room: usize,
-        rows: &'a [Columns<'a>],
+        /// Two columns a line, of ident, x, y and z.
+        rows: &'a [u8],
     }
-
-    const NONE: &[u8; 8] = b"\0\0\0\0\0\0\0\0";
-
-    const ONES: &[u8; 8] = b"\xff\xff\xff\xff\xff\xff\xff\xff";
 
     const FRONT: &[u8] =
         b"# SDF\nparameter byteorder = 0x78563412;\nstruct {\n  int64_t ident_hi;\n  uint64_t ident_lo;\n  int64_t ax_hi;\n  uint64_t ax_lo;\n  int64_t ay_hi;\n  uint64_t ay_lo;\n  int64_t az_hi;\n  uint64_t az_lo;\n}[";
@@ -144,43 +137,19 @@ mod tests {
     const AMPLE: usize = 999;
 
     /// The forces on two bodies of masses 1 and 3, four units apart, with softening 1.
-    const PULLS: [Acc3; 2] = [
-        Acc3 {
-            seen: 4,
-            ax: 3145725,
-            ay: 0,
-            az: 0,
-        },
-        Acc3 {
-            seen: 4,
-            ax: -1048575,
-            ay: 0,
-            az: 0,
-        },
-    ];
+    const FIRST: Acc3 = Acc3 {
+        seen: 4,
+        ax: 3145725,
+        ay: 0,
+        az: 0,
+    };
 
-    const PULL_ROWS: [Columns<'static>; 2] = [
-        [
-            NONE,
-            NONE,
-            NONE,
-            b"\xfd\xff\x2f\0\0\0\0\0",
-            NONE,
-            NONE,
-            NONE,
-            NONE,
-        ],
-        [
-            NONE,
-            b"\x01\0\0\0\0\0\0\0",
-            ONES,
-            b"\x01\0\xf0\xff\xff\xff\xff\xff",
-            NONE,
-            NONE,
-            NONE,
-            NONE,
-        ],
-    ];
+    const SECOND: Acc3 = Acc3 {
+        seen: 4,
+        ax: -1048575,
+        ay: 0,
+        az: 0,
+    };
 
     /// A force of -2^64 - 1 in x, of -2^64 in y and of 2^64 in z.
     const STRONG: Acc3 = Acc3 {
@@ -195,11 +164,7 @@ mod tests {
         let mut bytes = Vec::from_slice(alloc, FRONT)?;
         bytes.extend_from_slice(case.count)?;
         bytes.extend_from_slice(b"];\n# SDF-EOH\n")?;
-        for row in case.rows {
-            for column in row {
-                bytes.extend_from_slice(*column)?;
-            }
-        }
+        bytes.extend_from_slice(case.rows)?;
         Ok(bytes)
     }
 
@@ -211,62 +176,46 @@ mod tests {
                 idents: &[],
                 forces: &[],
                 chunk: 3,
-                room: AMPLE,
-                rows: &[],
+                rows: b"",
             },
             Case {
                 count: b"2",
                 idents: &[0, 1],
-                forces: &PULLS,
+                forces: &[FIRST, SECOND],
                 chunk: 7,
-                room: AMPLE,
-                rows: &PULL_ROWS,
+                rows: b"\0\0\0\0\0\0\0\0\0\0\0\0\0\0\0\0\
+                    \0\0\0\0\0\0\0\0\xfd\xff\x2f\0\0\0\0\0\
+                    \0\0\0\0\0\0\0\0\0\0\0\0\0\0\0\0\
+                    \0\0\0\0\0\0\0\0\0\0\0\0\0\0\0\0\
+                    \0\0\0\0\0\0\0\0\x01\0\0\0\0\0\0\0\
+                    \xff\xff\xff\xff\xff\xff\xff\xff\x01\0\xf0\xff\xff\xff\xff\xff\
+                    \0\0\0\0\0\0\0\0\0\0\0\0\0\0\0\0\
+                    \0\0\0\0\0\0\0\0\0\0\0\0\0\0\0\0",
             },
             Case {
                 count: b"2",
                 idents: &[18446744073709551615, -9223372036854775808],
                 forces: &[STRONG, STRONG],
                 chunk: 64,
-                room: AMPLE,
-                rows: &[
-                    [
-                        NONE,
-                        ONES,
-                        b"\xfe\xff\xff\xff\xff\xff\xff\xff",
-                        ONES,
-                        ONES,
-                        NONE,
-                        b"\x01\0\0\0\0\0\0\0",
-                        NONE,
-                    ],
-                    [
-                        ONES,
-                        b"\0\0\0\0\0\0\0\x80",
-                        b"\xfe\xff\xff\xff\xff\xff\xff\xff",
-                        ONES,
-                        ONES,
-                        NONE,
-                        b"\x01\0\0\0\0\0\0\0",
-                        NONE,
-                    ],
-                ],
-            },
-            // a sink that fails within the second row
-            Case {
-                count: b"2",
-                idents: &[0, 1],
-                forces: &PULLS,
-                chunk: 5,
-                room: 300,
-                rows: &PULL_ROWS,
+                rows: b"\0\0\0\0\0\0\0\0\xff\xff\xff\xff\xff\xff\xff\xff\
+                    \xfe\xff\xff\xff\xff\xff\xff\xff\xff\xff\xff\xff\xff\xff\xff\xff\
+                    \xff\xff\xff\xff\xff\xff\xff\xff\0\0\0\0\0\0\0\0\
+                    \x01\0\0\0\0\0\0\0\0\0\0\0\0\0\0\0\
+                    \xff\xff\xff\xff\xff\xff\xff\xff\0\0\0\0\0\0\0\x80\
+                    \xfe\xff\xff\xff\xff\xff\xff\xff\xff\xff\xff\xff\xff\xff\xff\xff\
+                    \xff\xff\xff\xff\xff\xff\xff\xff\0\0\0\0\0\0\0\0\
+                    \x01\0\0\0\0\0\0\0\0\0\0\0\0\0\0\0",
             },
         ];
-        for case in &cases {
-            let whole = file(rt.alloc(), case)?;
-            let mut out = MemSink::new(rt.alloc(), case.chunk, case.room as u64)?;
-            let outcome = force_sdf(&mut out, case.idents, case.forces);
-            assert_eq!(rt; outcome.is_err(), case.room < whole.len());
-            assert_eq!(rt; out.written(), &whole[..case.room.min(whole.len())]);
+        // the second sink fails within the second row
+        for room in [AMPLE, 300] {
+            for case in &cases {
+                let whole = file(rt.alloc(), case)?;
+                let mut out = MemSink::new(rt.alloc(), case.chunk, room as u64)?;
+                let outcome = force_sdf(&mut out, case.idents, case.forces);
+                assert_eq!(rt; outcome.is_err(), room < whole.len());
+                assert_eq!(rt; out.written(), &whole[..room.min(whole.len())]);
+            }
         }
         Ok(())
     }
