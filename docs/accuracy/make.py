@@ -1,11 +1,11 @@
 #!/usr/bin/env python3
 """Makes the tables of docs/ACCURACY.md anew in their places, and the pictures beside this script.
 
-usage: docs/accuracy/make.py [--program PATH] [--count N] [--most N] [PART..]
+usage: docs/accuracy/make.py [--program PATH --note TEXT] [--count N] [--most N] [PART..]
 
 PART is a part of the page: ratio, leaf, scale, time, ranks, field; without one all are made. The program is the one that
-`./hot` built. N bodies of each system are taken for the errors (4000), and up to `--most` for the times (50000). It wants
-NumPy and matplotlib, and takes some minutes.
+`./hot` built; where another one is given, the note says on the page which. N bodies of each system are taken for the
+errors (3000), and up to `--most` for the times (50000). It wants NumPy and matplotlib, and takes some minutes.
 """
 
 import argparse
@@ -33,6 +33,7 @@ matplotlib.use("Agg")
 import matplotlib.pyplot as plt
 
 PAGE = TOP / "docs" / "ACCURACY.md"
+BUILT = TOP / "crates" / "hot" / "out" / "hot"
 RATIOS = ("1/10", "2/10", "3/10", "4/10", "5/10", "6/10", "7/10", "8/10", "9/10", "1/1", "6/5")
 SHOWN = ("1/10", "3/10", "5/10", "7/10", "9/10", "6/5")
 LEAVES = (1, 4, 8, 16, 32, 64)
@@ -95,12 +96,12 @@ class Pages:
                 for order in orders
                 for more in [["--moments", order] if order > 1 else []]
                 for ratio in RATIOS
-                if order == 1 or eval_ratio(ratio) <= 1
+                if order == 1 or value_of(ratio) <= 1
             }
             for order in orders:
                 known = [ratio for ratio in RATIOS if (ratio, order) in found]
                 label = "" if len(orders) == 1 else f", moments {order}"
-                values = [eval_ratio(ratio) for ratio in known]
+                values = [value_of(ratio) for ratio in known]
                 axis.semilogy(values, [found[ratio, order].most for ratio in known], "o-", ms=3, label=f"99 %{label}")
                 axis.semilogy(values, [found[ratio, order].median for ratio in known], "s-", ms=3, label=f"median{label}")
             axis.set(title=name, xlabel="opening ratio")
@@ -111,7 +112,7 @@ class Pages:
                     for order in orders
                     for number in numbers(found.get((ratio, order)))
                 ]
-                rows.append([name, f"{eval_ratio(ratio):g}", *cells])
+                rows.append([name, f"{value_of(ratio):g}", *cells])
         axes[0].set_ylabel("relative error")
         axes[0].legend()
         save(figure, "ratio.svg")
@@ -209,7 +210,7 @@ class Pages:
         return []
 
 
-def eval_ratio(ratio):
+def value_of(ratio):
     number, over = map(int, ratio.split("/"))
     return number / over
 
@@ -257,16 +258,19 @@ def put(page, name, lines):
 def main():
     parts = ("ratio", "leaf", "scale", "time", "ranks", "field")
     parser = argparse.ArgumentParser()
-    parser.add_argument("--program", default=str(TOP / "crates" / "hot" / "out" / "hot"))
-    parser.add_argument("--count", type=int, default=4000)
+    parser.add_argument("--program", default=str(BUILT))
+    parser.add_argument("--note", default="of the proved program")
+    parser.add_argument("--count", type=int, default=3000)
     parser.add_argument("--most", type=int, default=50_000)
     parser.add_argument("parts", nargs="*", metavar="PART", help=" ".join(parts))
     options = parser.parse_args()
+    if options.program != str(BUILT) and options.note == parser.get_default("note"):
+        parser.error("--program wants a --note, which says on the page which program it is")
     pages = Pages(options.program, options.count, options.most)
     for part in options.parts or parts:
         print(part, flush=True)
-        lines = getattr(pages, part)()
-        if lines:
+        if lines := getattr(pages, part)():
+            lines += ["", f"These numbers are those {options.note}."]
             PAGE.write_text(put(PAGE.read_text(encoding="utf-8"), part, lines), encoding="utf-8")
 
 
