@@ -197,15 +197,30 @@ class Pages:
         bodies = hotbodies.read_bodies(TOP / "examples" / "cluster.sdf")
         data = (TOP / "examples" / "cluster.sdf").read_bytes()
         pulls = file_forces(data, bodies.scale, softening=1, program=self.program).accelerations()
-        sizes = np.linalg.norm(pulls, axis=1)
-        figure, axis = plt.subplots(figsize=(6, 4.6))
-        ways = pulls[:, :2] / np.maximum(np.linalg.norm(pulls[:, :2], axis=1), 1e-300)[:, None]
-        axis.scatter(*bodies.positions[:, :2].T, s=bodies.masses / bodies.masses.max() * 60, color="0.6")
-        arrows = axis.quiver(
-            *bodies.positions[:, :2].T, *ways.T, np.log10(sizes), angles="xy", width=0.005, scale=18, cmap="viridis"
-        )
-        figure.colorbar(arrows, ax=axis, label="log10 of the acceleration, per unit mass, G = 1")
-        axis.set(aspect="equal", xlabel="x, units of the file", ylabel="y, units of the file")
+        sizes = np.log10(np.linalg.norm(pulls, axis=1))
+        ways = pulls[:, :2] / np.linalg.norm(pulls[:, :2], axis=1)[:, None]
+        places = bodies.positions
+        gaps = np.linalg.norm(places[:, None] - places[None], axis=2)
+        in_clump = (gaps < gaps.max() / 20).sum(axis=1) > 5
+        is_right = places[:, 0] > places[in_clump, 0].mean()
+        parts = {
+            "all, with arrows outside of the clumps": (slice(None), ~in_clump),
+            "one clump": (in_clump & ~is_right,) * 2,
+            "the other clump": (in_clump & is_right,) * 2,
+        }
+        figure, axes = plt.subplots(1, len(parts), figsize=(11, 3.6))
+        for axis, (title, (part, shown)) in zip(axes, parts.items()):
+            axis.scatter(*places[part, :2].T, s=4 + bodies.masses[part] / bodies.masses.max() * 30, color="0.6")
+            low, high = places[part, :2].min(axis=0), places[part, :2].max(axis=0)
+            middle, half = (low + high) / 2, 0.65 * (high - low).max()
+            arrows = axis.quiver(
+                *places[shown, :2].T, *ways[shown].T, sizes[shown], angles="xy", scale=9, width=0.008
+            )
+            arrows.set_clim(sizes.min(), sizes.max())
+            axis.set(title=title, aspect="equal", xlabel="x, units of the file", ylabel="y")
+            axis.set(xlim=middle[0] + half * np.array([-1, 1]), ylim=middle[1] + half * np.array([-1, 1]))
+            axis.ticklabel_format(style="sci", scilimits=(0, 0))
+        figure.colorbar(arrows, ax=axes, label="log10 of the acceleration, per unit mass, G = 1")
         save(figure, "field.svg")
         return []
 
