@@ -5,7 +5,7 @@ usage: docs/accuracy/make.py [--program PATH --note TEXT] [--count N] [--most N]
 
 PART is a part of the page: ratio, leaf, scale, time, ranks, field; without one all are made. The program is the one that
 `./hot` built; where another one is given, the note says on the page which. N bodies of each system are taken for the
-errors (3000), and up to `--most` for the times (50000). It wants NumPy and matplotlib, and takes some minutes.
+errors (2000), and up to `--most` for the times (50000). It wants NumPy and matplotlib, and takes some minutes.
 """
 
 import argparse
@@ -275,7 +275,7 @@ def main():
     parser = argparse.ArgumentParser()
     parser.add_argument("--program", default=str(BUILT))
     parser.add_argument("--note", default="of the proved program")
-    parser.add_argument("--count", type=int, default=3000)
+    parser.add_argument("--count", type=int, default=2000)
     parser.add_argument("--most", type=int, default=50_000)
     parser.add_argument("parts", nargs="*", metavar="PART", help=" ".join(parts))
     options = parser.parse_args()
