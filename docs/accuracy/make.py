@@ -178,7 +178,7 @@ class Pages:
         axis.legend()
         save(figure, "time.svg")
         rows = [[f"{count:,}", *(f"{taken[name, count]:.2f}" for name in SAMPLES)] for count in counts]
-        return table(["bodies", *SAMPLES], rows)
+        return [*table(["bodies", *SAMPLES], rows), "", "![Seconds against bodies](accuracy/time.svg)"]
 
     def ranks(self):
         positions, masses = SAMPLES["two clusters"](self.count, 1)
