@@ -1,11 +1,11 @@
 #!/usr/bin/env python3
 """Makes the tables of docs/ACCURACY.md anew in their places, and the pictures beside this script.
 
-usage: docs/accuracy/make.py [--program PATH] [--count N] [--most N] [PART..]
+usage: docs/accuracy/make.py [--program PATH --note TEXT] [--count N] [--most N] [PART..]
 
 PART is a part of the page: ratio, leaf, scale, time, ranks, field; without one all are made. The program is the one that
-`./hot` built. N bodies of each system are taken for the errors (4000), and up to `--most` for the times (50000). It wants
-NumPy and matplotlib, and takes some minutes.
+`./hot` built; where another one is given, the note says on the page which. N bodies of each system are taken for the
+errors (2000), and up to `--most` for the times (50000). It wants NumPy and matplotlib, and takes some minutes.
 """
 
 import argparse
@@ -33,6 +33,7 @@ matplotlib.use("Agg")
 import matplotlib.pyplot as plt
 
 PAGE = TOP / "docs" / "ACCURACY.md"
+BUILT = TOP / "crates" / "hot" / "out" / "hot"
 RATIOS = ("1/10", "2/10", "3/10", "4/10", "5/10", "6/10", "7/10", "8/10", "9/10", "1/1", "6/5")
 SHOWN = ("1/10", "3/10", "5/10", "7/10", "9/10", "6/5")
 LEAVES = (1, 4, 8, 16, 32, 64)
@@ -95,12 +96,12 @@ class Pages:
                 for order in orders
                 for more in [["--moments", order] if order > 1 else []]
                 for ratio in RATIOS
-                if order == 1 or eval_ratio(ratio) <= 1
+                if order == 1 or value_of(ratio) <= 1
             }
             for order in orders:
                 known = [ratio for ratio in RATIOS if (ratio, order) in found]
                 label = "" if len(orders) == 1 else f", moments {order}"
-                values = [eval_ratio(ratio) for ratio in known]
+                values = [value_of(ratio) for ratio in known]
                 axis.semilogy(values, [found[ratio, order].most for ratio in known], "o-", ms=3, label=f"99 %{label}")
                 axis.semilogy(values, [found[ratio, order].median for ratio in known], "s-", ms=3, label=f"median{label}")
             axis.set(title=name, xlabel="opening ratio")
@@ -111,7 +112,7 @@ class Pages:
                     for order in orders
                     for number in numbers(found.get((ratio, order)))
                 ]
-                rows.append([name, f"{eval_ratio(ratio):g}", *cells])
+                rows.append([name, f"{value_of(ratio):g}", *cells])
         axes[0].set_ylabel("relative error")
         axes[0].legend()
         save(figure, "ratio.svg")
@@ -177,7 +178,7 @@ class Pages:
         axis.legend()
         save(figure, "time.svg")
         rows = [[f"{count:,}", *(f"{taken[name, count]:.2f}" for name in SAMPLES)] for count in counts]
-        return table(["bodies", *SAMPLES], rows)
+        return [*table(["bodies", *SAMPLES], rows), "", "![Seconds against bodies](accuracy/time.svg)"]
 
     def ranks(self):
         positions, masses = SAMPLES["two clusters"](self.count, 1)
@@ -196,20 +197,35 @@ class Pages:
         bodies = hotbodies.read_bodies(TOP / "examples" / "cluster.sdf")
         data = (TOP / "examples" / "cluster.sdf").read_bytes()
         pulls = file_forces(data, bodies.scale, softening=1, program=self.program).accelerations()
-        sizes = np.linalg.norm(pulls, axis=1)
-        figure, axis = plt.subplots(figsize=(6, 4.6))
-        ways = pulls[:, :2] / np.maximum(np.linalg.norm(pulls[:, :2], axis=1), 1e-300)[:, None]
-        axis.scatter(*bodies.positions[:, :2].T, s=bodies.masses / bodies.masses.max() * 60, color="0.6")
-        arrows = axis.quiver(
-            *bodies.positions[:, :2].T, *ways.T, np.log10(sizes), angles="xy", width=0.005, scale=18, cmap="viridis"
-        )
-        figure.colorbar(arrows, ax=axis, label="log10 of the acceleration, per unit mass, G = 1")
-        axis.set(aspect="equal", xlabel="x, units of the file", ylabel="y, units of the file")
+        sizes = np.log10(np.linalg.norm(pulls, axis=1))
+        ways = pulls[:, :2] / np.linalg.norm(pulls[:, :2], axis=1)[:, None]
+        places = bodies.positions
+        gaps = np.linalg.norm(places[:, None] - places[None], axis=2)
+        in_clump = (gaps < gaps.max() / 20).sum(axis=1) > 5
+        is_right = places[:, 0] > places[in_clump, 0].mean()
+        parts = {
+            "all, with arrows outside of the clumps": (slice(None), ~in_clump),
+            "one clump": (in_clump & ~is_right,) * 2,
+            "the other clump": (in_clump & is_right,) * 2,
+        }
+        figure, axes = plt.subplots(1, len(parts), figsize=(11, 3.6))
+        for axis, (title, (part, shown)) in zip(axes, parts.items()):
+            axis.scatter(*places[part, :2].T, s=4 + bodies.masses[part] / bodies.masses.max() * 30, color="0.6")
+            low, high = places[part, :2].min(axis=0), places[part, :2].max(axis=0)
+            middle, half = (low + high) / 2, 0.65 * (high - low).max()
+            arrows = axis.quiver(
+                *places[shown, :2].T, *ways[shown].T, sizes[shown], angles="xy", scale=9, width=0.008
+            )
+            arrows.set_clim(sizes.min(), sizes.max())
+            axis.set(title=title, aspect="equal", xlabel="x, units of the file", ylabel="y")
+            axis.set(xlim=middle[0] + half * np.array([-1, 1]), ylim=middle[1] + half * np.array([-1, 1]))
+            axis.ticklabel_format(style="sci", scilimits=(0, 0))
+        figure.colorbar(arrows, ax=axes, label="log10 of the acceleration, per unit mass, G = 1")
         save(figure, "field.svg")
         return []
 
 
-def eval_ratio(ratio):
+def value_of(ratio):
     number, over = map(int, ratio.split("/"))
     return number / over
 
@@ -257,16 +273,19 @@ def put(page, name, lines):
 def main():
     parts = ("ratio", "leaf", "scale", "time", "ranks", "field")
     parser = argparse.ArgumentParser()
-    parser.add_argument("--program", default=str(TOP / "crates" / "hot" / "out" / "hot"))
-    parser.add_argument("--count", type=int, default=4000)
+    parser.add_argument("--program", default=str(BUILT))
+    parser.add_argument("--note", default="of the proved program")
+    parser.add_argument("--count", type=int, default=2000)
     parser.add_argument("--most", type=int, default=50_000)
     parser.add_argument("parts", nargs="*", metavar="PART", help=" ".join(parts))
     options = parser.parse_args()
+    if options.program != str(BUILT) and options.note == parser.get_default("note"):
+        parser.error("--program wants a --note, which says on the page which program it is")
     pages = Pages(options.program, options.count, options.most)
     for part in options.parts or parts:
         print(part, flush=True)
-        lines = getattr(pages, part)()
-        if lines:
+        if lines := getattr(pages, part)():
+            lines += ["", f"These numbers are those {options.note}."]
             PAGE.write_text(put(PAGE.read_text(encoding="utf-8"), part, lines), encoding="utf-8")
 
 

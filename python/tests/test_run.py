@@ -13,7 +13,6 @@ import numpy as np
 from hotbodies import Errors, ProgramError, ProgramMissing, Scale, accelerations, direct_accelerations, relative_errors
 from hotbodies import find_program, read_bodies
 from hotbodies.bodies import body_bytes
-from hotbodies.direct import direct_accelerations as direct
 from hotbodies.run import file_forces, ratio_words, run_program
 from hotbodies.samples import SAMPLES
 
@@ -88,7 +87,7 @@ class Answers(unittest.TestCase):
                     bodies, softening = read_bodies(data), scale.softening(eps)
                     found = file_forces(data, scale, 0, softening, program=self.program).whole.astype(float)
                     soft, unit = softening * scale.fine, scale.acceleration()
-                    exact = direct(bodies.positions, bodies.masses, soft) / unit
+                    exact = direct_accelerations(bodies.positions, bodies.masses, soft) / unit
                     gap = bodies.positions[None] - bodies.positions[:, None]
                     apart = np.sqrt((gap * gap).sum(axis=2) + soft**2)
                     pulls = np.abs(gap) * (bodies.masses / apart**3)[:, :, None] / unit
@@ -96,11 +95,11 @@ class Answers(unittest.TestCase):
                     self.assertTrue((np.abs(found - exact) <= bound).all())
 
     def test_the_errors_of_the_page(self):
-        """docs/ACCURACY.md: at ratio 0 one in a hundred is off by more than 1e-4 at most, at 0.7 by more than 3e-2."""
+        """docs/ACCURACY.md: 99 in 100 bodies are within 1e-4 at ratio 0, and within 1e-1 at 0.7."""
         for name, make in SAMPLES.items():
             positions, masses = make(300, 11)
             truth = direct_accelerations(positions, masses, 0.02)
-            for theta, most in ((0, 1e-4), (0.7, 3e-2)):
+            for theta, most in ((0, 1e-4), (0.7, 1e-1)):
                 with self.subTest(name, theta=theta):
                     found = accelerations(positions, masses, theta, 0.02, program=self.program)
                     self.assertLess(Errors.of(relative_errors(found, truth)).most, most)
