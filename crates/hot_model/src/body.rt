@@ -35,9 +35,9 @@ impl Model for Body {
     ghost inverse = { λ v. record { x = v.x; y = v.y; z = v.z; mass = v.mass; row = v.row; key = place_key v.x v.y v.z } };
 }
 
-/// The Morton key of a place in fine units (each coordinate below 2^29): 1, and then for each of 21
-/// levels a digit of the bits of x, y and z, from the highest on (Warren and Salmon, 1993). The bits
-/// of each axis are set apart by a table of bytes, and the three put together. It takes no memory.
+/// The Morton key of a place in fine units (each coordinate below 2^29), digit by digit: 1, and
+/// then for each of 21 levels the bits of x, y and z from the highest on (Warren and Salmon, 1993).
+/// A table of bytes sets the bits of each axis apart. It takes no memory.
 #[tactic(auto, using(crate::proofs::Spreads::on_keys))]
 pub fn place_key(x: u32, y: u32, z: u32) -> u64
     requires x_in { x < 2 ^ fine_bits }
