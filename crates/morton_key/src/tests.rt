@@ -18,7 +18,14 @@ fn worked_keys(rt: HostRuntime) {
 #[test]
 fn worked_entries(rt: HostRuntime) {
     let bytes = Spread::of_bytes();
-    for (byte, want) in [(0, 0), (1, 1), (2, 8), (3, 9), (128, 2_097_152), (255, 2_396_745)] {
+    for (byte, want) in [
+        (0, 0),
+        (1, 1),
+        (2, 8),
+        (3, 9),
+        (128, 2_097_152),
+        (255, 2_396_745),
+    ] {
         assert_eq!(rt; bytes.entry(byte), want, "of {byte}");
     }
 }
