@@ -9,8 +9,8 @@ usage: tools/check_docs.py [--program PATH]
   edit. A time that stands in a README is that of the table in CONTRIBUTING.md. The picture is that of tools/house.
 - A block ```console is run, line by line of those that begin with `$ `, with errors behind output, and what comes is
   compared; a line `...` stands for any lines. So is a command `./hot ..` in the text, which has to end with status 0.
-  A block ```python runs before what stands behind it (one of ```py, which needs NumPy, does not run). All run in one folder for each document, that has what the
-  repository has. They are left out where the program is not built from the source as it is; --program names another.
+  A block ```python runs before what stands behind it (one of ```py, which needs NumPy, does not run). All run in one
+  folder for each document, that has what the repository has. They are left out where the program is not built from the source as it is; --program names another.
 - Of a block ```sh, which may take long, no line is run: each command has to be there, each verb of `rt` too, and each
   path.
 """
