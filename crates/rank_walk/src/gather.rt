@@ -11,9 +11,10 @@ use std::alloc::{AllocError, Global};
 
 /// What one rank did in a walk.
 ///
-/// `rank` is its number, from 0, and `bodies` how many bodies its piece has. `opened` counts the pairs of one of these
-/// bodies and a cell that the body opens, from the root down: an opened leaf counts once, and no cell below it counts.
-/// `asks` is how many cells of other ranks it asked for, each of them once.
+/// `rank` is its number, from 0, and `bodies` how many bodies its piece has. `opened` counts the
+/// pairs of one of these bodies and a cell that the body opens, from the root down: an opened leaf
+/// counts once, and no cell below it counts. `asks` is how many cells of other ranks it asked for,
+/// each of them once.
 #[derive(Clone, Copy)]
 pub struct Effort {
     pub rank: u32,
@@ -24,9 +25,9 @@ pub struct Effort {
 
 /// What a walk over ranks found.
 ///
-/// `accs` has the accumulator of each body, in key order, and `efforts` what each rank did, by ascending rank. `opened` has
-/// the key of each cell that some body opens, once or more often, and no other. `rounds` is how many rounds the run took,
-/// the last one with it.
+/// `accs` has the accumulator of each body, in key order, and `efforts` what each rank did, by
+/// ascending rank. `opened` has the key of each cell that some body opens, once or more often, and
+/// no other. `rounds` is how many rounds the run took, the last one with it.
 #[derive(Drop)]
 pub struct Found<A> {
     pub accs: Vec<A>,

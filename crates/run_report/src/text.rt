@@ -79,10 +79,10 @@ fn branch_lines<E: Sink>(err: &mut E, branches: &[Listed]) -> Result<(), Failed>
     Ok(())
 }
 
-/// Writes a report: the line `# hot report 1`; for each rank the line `rank Q bodies N opened O asks A`; for each branch,
-/// by ascending key, the line `branch KEY rank Q`; the line `letters L rounds K cells C bound B`; and the line
-/// `# end report`. `Failed` comes exactly where the sink's count of faults rises, and then a front of the text was written.
-/// No memory is taken.
+/// Writes a report: the line `# hot report 1`; for each rank the line `rank Q bodies N opened O
+/// asks A`; for each branch, by ascending key, the line `branch KEY rank Q`; the line `letters L
+/// rounds K cells C bound B`; and the line `# end report`. `Failed` comes exactly where the sink's
+/// count of faults rises, and then a front of the text was written. No memory is taken.
 pub fn report_text<E: Sink>(err: &mut E, report: &RunReport) -> Result<(), Failed>
     requires unfailed { E.faults err.old ≡ 0 }
     ensures cause { FailsExactly (E.faults err.old) (E.faults err.new) result }
@@ -154,7 +154,8 @@ fn add_sum(line: &mut Line, sum: &ForceSum)
     line.add(" ", sum.z);
 }
 
-/// Writes the line of a run on generated bodies.
+/// Writes the line of a run on generated bodies. `Failed` comes exactly where the sink's count of
+/// faults rises, and then a front of the line was written. No memory is taken.
 pub fn sample_text<O: Sink>(out: &mut O, sample: &Sample) -> Result<(), Failed>
     requires unfailed { O.faults out.old ≡ 0 }
     ensures cause { FailsExactly (O.faults out.old) (O.faults out.new) result }
