@@ -117,7 +117,7 @@ some_taken g (Taken n ∷ log) h = by_place (some_taken g log) (order (g n))
 some_taken g (Round ∷ log) h = some_taken g log h
 
 -- what was taken was posted
-some_posted : (opens : BodyValue → CellValue → Bool) (w : World) (g : Note → ℕ) (log : List Entry) → Legal opens w log → 1 ≤ in_taken g log → 1 ≤ in_posted g log
+pub some_posted : (opens : BodyValue → CellValue → Bool) (w : World) (g : Note → ℕ) (log : List Entry) → Legal opens w log → 1 ≤ in_taken g log → 1 ≤ in_posted g log
 some_posted opens w g log h o =
     let a = some_taken g log o in
     let b = taken_posted opens w (λ m. nonzero (g m)) log h in

@@ -3,7 +3,8 @@ use Rattle.std.proofs.Common.{◌≡◌, ◌⊎◌, ℕ, zero, suc, ◌≤◌, r
 use Rattle.hot_model.specs.Needs.{IsForeign}
 use Rattle.hot_model.proofs.Bounds.{needs_bound}
 use Rattle.protocol.specs.Counts.{in_posted, asks_by, answers_to}
-use Rattle.protocol.specs.Laws.{StartHolds, StepKeeps, PostKeeps, TakeKeeps, TurnKeeps, RoundKeeps, OneState, OwnFresh, QuietEnds, SameNotes, TakenOnce, AsksExactly, FewNeeds, FewLetters, FewRounds, RoundsLeft, StepDeepens, PostDeep, TakeDeep, TurnDeep, RoundDeep}
+use Rattle.protocol.specs.Laws.{StartHolds, StepKeeps, PostKeeps, TakeKeeps, TurnKeeps, RoundKeeps, OneState, OwnFresh, QuietEnds, SameNotes, TakenOnce, AsksExactly, FewNeeds, FewLetters, FewRounds, RoundsLeft, StepDeepens, PostDeep, TakeDeep, TurnDeep, RoundDeep, BranchesFirst, AsksFirst}
+use Rattle.protocol.proofs.Following.{told_before, asked_before}
 use Rattle.protocol.proofs.Weights.{has_or_not}
 use Rattle.protocol.proofs.Counting.{same_note-decides, taken_most}
 use Rattle.protocol.proofs.Starting.{new_joint, new_quiet, new_start, new_deep}
@@ -67,6 +68,12 @@ same_notes m n = same_note-decides m n
 
 pub taken_once : TakenOnce
 taken_once opens w later front n h = taken_most opens w later front n h
+
+pub branches_first : BranchesFirst
+branches_first opens w later front q c p h u n o = told_before opens w later front q c p h u n o
+
+pub asks_first : AsksFirst
+asks_first opens w later front q c h o = asked_before opens w later front q c h o
 
 pub few_needs : FewNeeds
 few_needs opens w g = needs_bound opens w g

@@ -10,6 +10,7 @@ pub mod Stepping
 pub mod Ending
 pub mod Bounds
 pub mod Counting
+pub mod Following
 pub mod Above
 pub mod Deepening
 pub mod Starting

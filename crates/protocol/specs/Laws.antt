@@ -3,13 +3,14 @@ use Rattle.std.specs.Prelude.{ℕ, ◌+◌, ◌-◌, ◌*◌, ◌<◌, ◌≤◌
 use Rattle.hot_model.specs.Values.{BodyValue, CellValue}
 use Rattle.hot_model.specs.World.{World, IsGood}
 use Rattle.hot_model.specs.Needs.{Needs, IsForeign, met_cells, round_bound}
+use Rattle.cell_mail.specs.declared.content.Kind.TheVariants as kinds
 use Rattle.cell_mail.specs.Letters.{LetterValue}
 use Rattle.round_runner.specs.declared.wire.Turn.{Turn}
 use Rattle.round_runner.specs.Desk.{Desk, letters_in, rounds_in, Takes, posted, turned, rounded}
 use Rattle.round_runner.specs.declared.entry.Entry.{Entry}
 use Rattle.round_runner.specs.declared.entry.Note.{Note}
 use Rattle.rank_core.specs.Times.{times}
-use Rattle.protocol.specs.Counts.{in_posted, asks_by, same_note, posted_notes, taken_notes}
+use Rattle.protocol.specs.Counts.{in_posted, in_taken, one_between, asks_by, answers_to, same_note, posted_notes, taken_notes}
 use Rattle.rank_core.specs.Truth.{TrueLetter, owner_of}
 use Rattle.rank_core.specs.Seat.{Seat, Moves, with_outbox, with_inbox, IsFresh}
 use Rattle.protocol.specs.Logs.{needs_in_all, IsPrompt, Legal, PostAllowed, Complete, taken_since}
@@ -61,6 +62,14 @@ SameNotes = (m n : Note) → IsTrue (same_note m n) ↔ (m ≡ n)
 -- in each front of a legal log a note stands among those taken at most as often as among those posted
 abbrev pub TakenOnce : Type 0
 TakenOnce = (opens : BodyValue → CellValue → Bool) (w : World) (later front : List Entry) (n : Note) → Legal opens w (later ++ front) → count_by (same_note n) (taken_notes front) ≤ count_by (same_note n) (posted_notes front)
+
+-- in each front of a legal log a rank that asked for a cell has taken the branches of all other ranks
+abbrev pub BranchesFirst : Type 0
+BranchesFirst = (opens : BodyValue → CellValue → Bool) (w : World) (later front : List Entry) (q c p : ℕ) → Legal opens w (later ++ front) → p < w.ranks → p ≢ q → 1 ≤ in_posted (asks_by q c) front → 1 ≤ in_taken (one_between kinds.Branches p q) front
+
+-- and of a cell that was answered to a rank, the ask of that rank was taken
+abbrev pub AsksFirst : Type 0
+AsksFirst = (opens : BodyValue → CellValue → Bool) (w : World) (later front : List Entry) (q c : ℕ) → Legal opens w (later ++ front) → 1 ≤ in_posted (answers_to q c) front → 1 ≤ in_taken (asks_by q c) front
 
 -- in a legal and complete log the cells that a rank asks for are exactly those that it needs, each once
 abbrev pub AsksExactly : Type 0

@@ -60,6 +60,17 @@ pub fn taken_once()
     ensures law { laws.TakenOnce }
 {}
 
+/// In each front of a legal log a rank that asked for a cell has taken the branches of all others.
+pub fn branches_first()
+    ensures law { laws.BranchesFirst }
+{}
+
+/// In each front of a legal log, of a cell that was answered to a rank the ask of that rank was
+/// taken.
+pub fn asks_first()
+    ensures law { laws.AsksFirst }
+{}
+
 /// In a legal and complete log the cells that a rank asks for are exactly those that it needs, each
 /// once.
 pub fn asks_exactly()

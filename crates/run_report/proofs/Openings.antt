@@ -164,5 +164,5 @@ once_in opens w (suc deep) c k h p =
     ]
 
 -- a body opens each cell once at most
-pub opened_once : (opens : CellValue → Bool) (w : World) (c : ℕ) → count_by (eqb c) (opened opens w.leaf w.bodies) ≤ 1
-opened_once opens w c = once_in opens w 21 1 c (omega arith) (omega arith, omega arith)
+pub opens_once : (opens : CellValue → Bool) (w : World) (c : ℕ) → count_by (eqb c) (opened opens w.leaf w.bodies) ≤ 1
+opens_once opens w c = once_in opens w 21 1 c (omega arith) (omega arith, omega arith)

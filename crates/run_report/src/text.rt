@@ -154,7 +154,8 @@ fn add_sum(line: &mut Line, sum: &ForceSum)
     line.add(" ", sum.z);
 }
 
-/// Writes the line of a run on generated bodies.
+/// Writes the line of a run on generated bodies. `Failed` comes exactly where the sink's count of
+/// faults rises, and then a front of the line was written. No memory is taken.
 pub fn sample_text<O: Sink>(out: &mut O, sample: &Sample) -> Result<(), Failed>
     requires unfailed { O.faults out.old ≡ 0 }
     ensures cause { FailsExactly (O.faults out.old) (O.faults out.new) result }

@@ -4,13 +4,13 @@ use Rattle.hot_model.proofs.Counts.{needed-are, needed_ascend}
 use Rattle.hot_model.proofs.Sorts.{ascends_strict}
 use Rattle.split_table.proofs.AllBranches.{branch_in_cells, cell_is_branch}
 use Rattle.run_report.proofs.CellsInPlay.{met_are, met_ascend}
-use Rattle.run_report.proofs.Openings.{opened_once}
+use Rattle.run_report.proofs.Openings.{opens_once}
 use Rattle.run_report.proofs.laws.numbers_are_counts.Goals as goal
 
 pub returns : goal.returns
 returns c = record {
   law = λ opens w g. record {
-    opened_once = λ b k. opened_once (opens b) w k;
+    opened_once = λ b k. opens_once (opens b) w k;
     asks_once = λ q. ascends_strict (needed opens w q) (needed_ascend opens w q g);
     asks = needed-are opens w;
     cells_once = met_ascend opens w g;
