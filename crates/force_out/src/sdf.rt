@@ -120,8 +120,8 @@ mod tests {
     use std::alloc::{AllocError, Global};
     use std::test::Fail;
 
-    /// The columns of a row, as they stand in the file.
-    type Columns<'a> = [&'a [u8; 8]; 8];
+    /// The eight columns of a row, a signed one by its bits.
+    type Columns = [u64; 8];
 
     #[derive(Drop)]
     struct Case<'a> {
@@ -130,18 +130,11 @@ mod tests {
         forces: &'a [Acc3],
         chunk: usize,
         room: usize,
-        rows: &'a [Columns<'a>],
+        rows: &'a [Columns],
     }
-
-    const NONE: &[u8; 8] = b"\0\0\0\0\0\0\0\0";
-
-    const ONES: &[u8; 8] = b"\xff\xff\xff\xff\xff\xff\xff\xff";
 
     const FRONT: &[u8] =
         b"# SDF\nparameter byteorder = 0x78563412;\nstruct {\n  int64_t ident_hi;\n  uint64_t ident_lo;\n  int64_t ax_hi;\n  uint64_t ax_lo;\n  int64_t ay_hi;\n  uint64_t ay_lo;\n  int64_t az_hi;\n  uint64_t az_lo;\n}[";
-
-    /// More than any file here has.
-    const AMPLE: usize = 999;
 
     /// The forces on two bodies of masses 1 and 3, four units apart, with softening 1.
     const PULLS: [Acc3; 2] = [
@@ -159,26 +152,17 @@ mod tests {
         },
     ];
 
-    const PULL_ROWS: [Columns<'static>; 2] = [
+    const PULL_ROWS: [Columns; 2] = [
+        [0, 0, 0, 0x2f_fffd, 0, 0, 0, 0],
         [
-            NONE,
-            NONE,
-            NONE,
-            b"\xfd\xff\x2f\0\0\0\0\0",
-            NONE,
-            NONE,
-            NONE,
-            NONE,
-        ],
-        [
-            NONE,
-            b"\x01\0\0\0\0\0\0\0",
-            ONES,
-            b"\x01\0\xf0\xff\xff\xff\xff\xff",
-            NONE,
-            NONE,
-            NONE,
-            NONE,
+            0,
+            1,
+            0xffff_ffff_ffff_ffff,
+            0xffff_ffff_fff0_0001,
+            0,
+            0,
+            0,
+            0,
         ],
     ];
 
@@ -190,6 +174,30 @@ mod tests {
         az: 18446744073709551616,
     };
 
+    /// Its columns: the high halves are -2, -1 and 1.
+    const STRONG_ROWS: [Columns; 2] = [
+        [
+            0,
+            18446744073709551615,
+            0xffff_ffff_ffff_fffe,
+            18446744073709551615,
+            0xffff_ffff_ffff_ffff,
+            0,
+            1,
+            0,
+        ],
+        [
+            0xffff_ffff_ffff_ffff,
+            0x8000_0000_0000_0000,
+            0xffff_ffff_ffff_fffe,
+            18446744073709551615,
+            0xffff_ffff_ffff_ffff,
+            0,
+            1,
+            0,
+        ],
+    ];
+
     /// The whole file of a case.
     fn file(alloc: Global, case: &Case<'_>) -> Result<Vec<u8>, AllocError> {
         let mut bytes = Vec::from_slice(alloc, FRONT)?;
@@ -197,7 +205,7 @@ mod tests {
         bytes.extend_from_slice(b"];\n# SDF-EOH\n")?;
         for row in case.rows {
             for column in row {
-                bytes.extend_from_slice(*column)?;
+                bytes.extend_from_slice(&column.to_le_bytes())?;
             }
         }
         Ok(bytes)
@@ -211,7 +219,7 @@ mod tests {
                 idents: &[],
                 forces: &[],
                 chunk: 3,
-                room: AMPLE,
+                room: 999,
                 rows: &[],
             },
             Case {
@@ -219,7 +227,7 @@ mod tests {
                 idents: &[0, 1],
                 forces: &PULLS,
                 chunk: 7,
-                room: AMPLE,
+                room: 999,
                 rows: &PULL_ROWS,
             },
             Case {
@@ -227,29 +235,8 @@ mod tests {
                 idents: &[18446744073709551615, -9223372036854775808],
                 forces: &[STRONG, STRONG],
                 chunk: 64,
-                room: AMPLE,
-                rows: &[
-                    [
-                        NONE,
-                        ONES,
-                        b"\xfe\xff\xff\xff\xff\xff\xff\xff",
-                        ONES,
-                        ONES,
-                        NONE,
-                        b"\x01\0\0\0\0\0\0\0",
-                        NONE,
-                    ],
-                    [
-                        ONES,
-                        b"\0\0\0\0\0\0\0\x80",
-                        b"\xfe\xff\xff\xff\xff\xff\xff\xff",
-                        ONES,
-                        ONES,
-                        NONE,
-                        b"\x01\0\0\0\0\0\0\0",
-                        NONE,
-                    ],
-                ],
+                room: 999,
+                rows: &STRONG_ROWS,
             },
             // a sink that fails within the second row
             Case {
