@@ -42,21 +42,21 @@ fn forces_as_sdf(rt: HostRuntime) -> Result<(), Fail> {
             MASSES,
             b"2".as_slice(),
             PAIR.as_slice(),
-            &pulls,
+            pulls.as_slice(),
         ),
         (
             "forces --form sdf --ranks 2 --eps 1 --mail last -",
             MASSES,
             b"".as_slice(),
             PAIR.as_slice(),
-            &pulls,
+            pulls.as_slice(),
         ),
         (
             "forces --form sdf",
             PLACES,
             b"0".as_slice(),
             [].as_slice(),
-            &none,
+            none.as_slice(),
         ),
     ] {
         let input = plain_file(alloc, columns, count, numbers)?;
