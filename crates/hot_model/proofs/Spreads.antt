@@ -3,7 +3,7 @@ use Rattle.std.proofs.Common.{ℕ, zero, suc, ◌≡◌, ◌+◌, ◌-◌, ◌*�
 use Rattle.std.proofs.Math.Nat.{pow-succ', div-div-eq-div-mul, div-one, mul_assoc}
 use Rattle.std.proofs.lemmas.Bool.{cases_eq}
 use lib.Ieee.Fits.{and_l, and_r}
-use Rattle.hot_model.specs.Keys.{bit, key_to}
+use Rattle.hot_model.specs.Keys.{bit, digit, key_to}
 use Rattle.hot_model.specs.Spread.{spread}
 use Rattle.hot_model.proofs.Digits.{bit-le, two_pow_three}
 
