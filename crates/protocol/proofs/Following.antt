@@ -94,14 +94,14 @@ module _ (opens : BodyValue → CellValue → Bool) (w : World) where
             let v = ask-value q c ks l e f in
             elim (has_or_not c ks) [
               | inl y ↦ elim (branch_or_not w l.to c (t.1 c y)) [
-                  | inl b ↦ subst (λ (i : ℕ). 1 ≤ in_taken (one_between kinds.Branches p i) log) f ((m c y).branch b p u (λ g. n (g ∙ f)))
-                  | inr b ↦ (
-                      let a : 1 ≤ in_taken (key_between kinds.Answers l.to q (parent c)) log = subst (λ (i : ℕ). 1 ≤ in_taken (key_between kinds.Answers l.to i (parent c)) log) f ((m c y).inner b) in
-                      let s = some_posted opens w (key_between kinds.Answers l.to q (parent c)) log h a in
-                      let g = posted_rises (key_between kinds.Answers l.to q (parent c)) (answers_to q (parent c)) (answer_within l.to q (parent c)) log in
-                      let k = answered_asked log h q (parent c) (omega (arith, s, g)) in
-                      r (parent c) (some_posted opens w (asks_by q (parent c)) log h k))
-                ]
+                | inl b ↦ subst (λ (i : ℕ). 1 ≤ in_taken (one_between kinds.Branches p i) log) f ((m c y).branch b p u (λ g. n (g ∙ f)))
+                | inr b ↦ (
+                    let a : 1 ≤ in_taken (key_between kinds.Answers l.to q (parent c)) log = subst (λ (i : ℕ). 1 ≤ in_taken (key_between kinds.Answers l.to i (parent c)) log) f ((m c y).inner b) in
+                    let s = some_posted opens w (key_between kinds.Answers l.to q (parent c)) log h a in
+                    let g = posted_rises (key_between kinds.Answers l.to q (parent c)) (answers_to q (parent c)) (answer_within l.to q (parent c)) log in
+                    let k = answered_asked log h q (parent c) (omega (arith, s, g)) in
+                    r (parent c) (some_posted opens w (asks_by q (parent c)) log h k))
+              ]
               | inr y ↦ r c (omega arith)
             ])
         | inr f ↦ (let z = ask-other q c l f in r c (omega arith))

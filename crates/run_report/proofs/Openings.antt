@@ -33,12 +33,12 @@ has_or_none k (x ∷ xs) =
     elim (cases_eq k x) [
       | inl e ↦ inl (subst (λ (y : ℕ). Contains (x ∷ xs) y) (sym e) (head_has x xs))
       | inr n ↦ elim (has_or_none k xs) [
-          | inl h ↦ inl (tail_has x xs k h)
-          | inr z ↦
-              let c = often_cons k x xs in
-              let t : one_if (eqb k x) ≡ 0 = ap one_if (ne_eqb _ _ n) in
-              inr (omega (arith, c, t, z))
-        ]
+        | inl h ↦ inl (tail_has x xs k h)
+        | inr z ↦
+            let c = often_cons k x xs in
+            let t : one_if (eqb k x) ≡ 0 = ap one_if (ne_eqb _ _ n) in
+            inr (omega (arith, c, t, z))
+      ]
     ]
 
 often_none : (k : ℕ) (xs : List ℕ) → (Contains xs k → ⊥) → often k xs ≡ 0
@@ -55,10 +55,10 @@ flat_once f k (d ∷ ds) a o s =
     elim (has_or_none k (f d)) [
       | inl h ↦
           let none : often k (flat_map f ds) ≡ 0 = often_none k (flat_map f ds) (λ m. (
-              let r = has_flat f ds k m in
-              let same : d ≡ r.0 = s d r.0 (head_has d ds) (tail_has d ds r.0 r.1) h r.2 in
-              let above = above_member d ds r.0 a.0 r.1 in
-              absurd (omega (arith, same, above)))) in
+          let r = has_flat f ds k m in
+          let same : d ≡ r.0 = s d r.0 (head_has d ds) (tail_has d ds r.0 r.1) h r.2 in
+          let above = above_member d ds r.0 a.0 r.1 in
+          absurd (omega (arith, same, above)))) in
           omega (arith, sum, one, none)
       | inr z ↦ omega (arith, sum, rest, z)
     ]
@@ -119,9 +119,9 @@ not_in_child deep c d h p b =
 
 once_at : (k c : ℕ) → often k (c ∷ []) ≤ 1
 once_at k c = elim (cases_eq k c) [
-    | inl e ↦ (let a = often_cons k c [] in let t : one_if (eqb k c) ≡ 1 = ap one_if (eq-eqb _ _ e) in omega (arith, a, t))
-    | inr n ↦ (let a = often_cons k c [] in let t : one_if (eqb k c) ≡ 0 = ap one_if (ne_eqb _ _ n) in omega (arith, a, t))
-  ]
+  | inl e ↦ (let a = often_cons k c [] in let t : one_if (eqb k c) ≡ 1 = ap one_if (eq-eqb _ _ e) in omega (arith, a, t))
+  | inr n ↦ (let a = often_cons k c [] in let t : one_if (eqb k c) ≡ 0 = ap one_if (ne_eqb _ _ n) in omega (arith, a, t))
+]
 
 -- the cell itself, and what is opened in its children
 once_parted : (opens : CellValue → Bool) (w : World) (deep c k : ℕ) → suc deep ≤ 21 → HasLevel c (21 - suc deep) → ((d : ℕ) → d < 8 → often k (opened_child opens w deep c d) ≤ 1)
@@ -136,8 +136,8 @@ once_parted opens w deep c k h p each =
     elim (cases_eq k c) [
       | inl same ↦
           let none : often k (flat_map f digits) ≡ 0 = often_none k (flat_map f digits) (λ m. (
-              let r = has_flat f digits k m in
-              not_in_child deep c r.0 h p (subst (λ (x : ℕ). IsBelow deep (child c r.0) x) same (below r.0 (have_digits r.0 r.1) r.2)))) in
+          let r = has_flat f digits k m in
+          not_in_child deep c r.0 h p (subst (λ (x : ℕ). IsBelow deep (child c r.0) x) same (below r.0 (have_digits r.0 r.1) r.2)))) in
           let t : one_if (eqb k c) ≡ 1 = ap one_if (eq-eqb _ _ same) in
           omega (arith, sum, none, t)
       | inr n ↦
