@@ -1,5 +1,5 @@
 -- What each event keeps of ranks that run together.
-use Rattle.std.proofs.Common.{◌≡◌, ◌≢◌, ℕ, zero, suc, ◌+◌, ◌<◌, ◌≤◌, Bool, true, false, Option, Some, None, Result, Ok, Err, IsErr, List, [], ◌∷◌, ◌++◌, length, take, drop, refl, ap, arith, sym, subst, ◌∙◌, inl, inr, slice_get, slice_set, slice_index_or, true≢false}
+use Rattle.std.proofs.Common.{◌≡◌, ◌≢◌, ℕ, zero, suc, ◌+◌, ◌<◌, ◌≤◌, Bool, true, false, Option, Some, None, Result, Ok, Err, IsErr, OnOk, OnErr, List, [], ◌∷◌, ◌++◌, length, take, drop, refl, ap, arith, sym, subst, ◌∙◌, inl, inr, slice_get, slice_set, slice_index_or, true≢false}
 use Rattle.std.proofs.lemmas.Grind.{common_steps}
 use Rattle.std.specs.declared.alloc.AllocError.{AllocError}
 use Rattle.hot_model.specs.Values.{BodyValue, CellValue}
@@ -15,7 +15,7 @@ use Rattle.round_runner.specs.Desk.{Desk, Takes, posted, turned, rounded, letter
 use Rattle.rank_core.specs.Times.{flag}
 use Rattle.protocol.specs.Counts.{in_letters}
 use Rattle.rank_core.specs.Truth.{TrueLetter}
-use Rattle.rank_core.specs.Seat.{Seat, Moves, IsFresh}
+use Rattle.rank_core.specs.Seat.{Seat, Moves, IsFresh, with_letter, refused}
 use Rattle.protocol.specs.Logs.{Legal, IsPrompt, taken_since}
 use Rattle.protocol.specs.Joint.{Joint, Worked, AllWorked, AllQuiet, IsStart, AllNew, IsBegun}
 use Rattle.protocol.specs.Depth.{Deep}
@@ -25,7 +25,7 @@ use Rattle.protocol.proofs.Keeping.{start_holds}
 use Rattle.protocol.proofs.Taking.{taken_true, legal_take}
 use Rattle.rank_core.specs.Standing.{RankState}
 use Rattle.rank_core.specs.Seats.{seat_of, visit_of, Stepped, PopsOut}
-use Rattle.runs.specs.Running.{most_rounds, seats, SameMail, Frame, QuietAt, outbox_len, PopsAt, HandsAt, Together, Running, Over, RoundEnds}
+use Rattle.runs.specs.Running.{most_rounds, seats, ArePlaced, numbers, SameMail, Frame, QuietAt, outbox_len, PopsAt, HandsAt, Together, Running, Over, RoundEnds}
 
 -- seats of ranks
 pub seat_at : {V A : Type 0} (rs : List (RankState V A)) (q : ℕ) (r : RankState V A) → slice_get rs q ≡ Some r → slice_get (seats rs) q ≡ Some (seat_of r)
@@ -46,6 +46,46 @@ seats_set (x ∷ rs) (suc q) r = ap (λ ss. (seat_of x) ∷ ss) (seats_set rs q 
 pub seats_len : {V A : Type 0} (rs : List (RankState V A)) → length (seats rs) ≡ length rs
 seats_len [] = refl
 seats_len (x ∷ rs) = ap suc (seats_len rs)
+
+-- the numbers of ranks
+pub numbers_set : {V A : Type 0} (rs : List (RankState V A)) (q : ℕ) (s t : RankState V A) → slice_get rs q ≡ Some s → (seat_of t).me ≡ (seat_of s).me → numbers (slice_set rs q t) ≡ numbers rs
+numbers_set [] q s t e n = refl
+numbers_set (x ∷ rs) zero s t e n = let k : s ≡ x = cc in ap (λ (m : ℕ). m ∷ numbers rs) (n ∙ ap (λ y. (seat_of y).me) k)
+numbers_set (x ∷ rs) (suc q) s t e n = ap (λ (ms : List ℕ). (seat_of x).me ∷ ms) (numbers_set rs q s t e n)
+
+pub numbers_step : {V A : Type 0} (rs ts : List (RankState V A)) → length ts ≡ length rs → ((k : ℕ) (d : RankState V A) → k < length rs → (seat_of (slice_index_or ts k d)).me ≡ (seat_of (slice_index_or rs k d)).me)
+    → numbers ts ≡ numbers rs
+numbers_step [] [] n h = refl
+numbers_step [] (t ∷ ts) n h = absurd (omega (arith, n))
+numbers_step (r ∷ rs) [] n h = absurd (omega (arith, n))
+numbers_step (r ∷ rs) (t ∷ ts) n h =
+    let one : (seat_of t).me ≡ (seat_of r).me = h 0 r (omega arith) in
+    let rest : numbers ts ≡ numbers rs = numbers_step rs ts (omega (arith, n)) (λ k d lt. h (suc k) d (omega (arith, lt))) in
+    ap (λ (m : ℕ). m ∷ numbers ts) one ∙ ap (λ (ms : List ℕ). (seat_of r).me ∷ ms) rest
+
+number_at : {V A : Type 0} (rs : List (RankState V A)) (q : ℕ) (r : RankState V A) → slice_get rs q ≡ Some r → slice_get (numbers rs) q ≡ Some (seat_of r).me
+number_at [] q r e = let k : None ≡ Some r = e in cc
+number_at (x ∷ rs) zero r e = let k : x ≡ r = cc in ap (λ y. Some (seat_of y).me) k
+number_at (x ∷ rs) (suc q) r e = number_at rs q r e
+
+rank_of_number : {V A : Type 0} (rs : List (RankState V A)) (q n : ℕ) → slice_get (numbers rs) q ≡ Some n → (r : RankState V A) × (slice_get rs q ≡ Some r) × ((seat_of r).me ≡ n)
+rank_of_number [] q n e = absurd (let k : None ≡ Some n = e in cc)
+rank_of_number (x ∷ rs) zero n e = (x, refl, (let k : Some (seat_of x).me ≡ Some n = e in cc))
+rank_of_number (x ∷ rs) (suc q) n e = rank_of_number rs q n e
+
+-- ranks with the same numbers stand at the same places
+pub placed_by : {V A : Type 0} (rs us : List (RankState V A)) → numbers us ≡ numbers rs → ArePlaced rs → ArePlaced us
+placed_by rs us e h q u g =
+    let r = rank_of_number rs q (seat_of u).me (subst (λ (ns : List ℕ). slice_get ns q ≡ Some (seat_of u).me) e (number_at us q u g)) in
+    sym r.2 ∙ h q r.0 r.1
+
+pub new_placed : {V A : Type 0} (rs : List (RankState V A)) → AllNew (seats rs) → ArePlaced rs
+new_placed rs new q r g = (new q (seat_of r) (seat_at rs q r g)).me
+
+-- a rank that took a letter, or was refused memory, has its number
+pub same_number : (s t : Seat) (l : LetterValue) (r : Result (Unit {0}) AllocError) → OnOk r (t ≡ with_letter s l) → OnErr r (t ≡ refused s) → t.me ≡ s.me
+same_number s t l (Ok x) o e = ap (λ (y : Seat). y.me) o
+same_number s t l (Err x) o e = ap (λ (y : Seat). y.me) e
 
 at_get : {X : Type 0} (xs : List X) (i : ℕ) (x d : X) → slice_get xs i ≡ Some x → slice_index_or xs i d ≡ x
 at_get [] i x d e = cc
@@ -227,6 +267,13 @@ module _ {V A : Type 0} (Stands : World → RankState V A → Type 0) where
 
   pub pops_others : (rs : List (RankState V A)) (q : ℕ) (o : Option LetterValue) (ts : List (RankState V A)) → PopsAt Stands rs q o ts → (x : ℕ) → x ≢ q → slice_get ts x ≡ slice_get rs x
   pops_others rs q o ts p x ne = ap (λ us. slice_get us x) p.3 ∙ get-set-other rs q x p.1 ne
+
+  popped_number : (s t : Seat) (o : Option LetterValue) → PopsOut s o t → t.me ≡ s.me
+  popped_number s t None e = ap (λ (y : Seat). y.me) e.1
+  popped_number s t (Some l) e = ap (λ (y : Seat). y.me) e.1
+
+  pub pops_numbers : (rs : List (RankState V A)) (q : ℕ) (o : Option LetterValue) (ts : List (RankState V A)) → PopsAt Stands rs q o ts → numbers ts ≡ numbers rs
+  pops_numbers rs q o ts p = ap (λ us. numbers us) p.3 ∙ numbers_set rs q p.0 p.1 p.2 (popped_number (seat_of p.0) (seat_of p.1) o p.4.out)
 
   still_worked : (s t : Seat) (o : Option LetterValue) → PopsOut s o t → Worked s → Worked t
   still_worked s t None e wk = subst (λ y. Worked y) (sym e.1) wk

@@ -31,6 +31,10 @@ seats rs = map seat_of rs
 abbrev pub ArePlaced : {V A : Type 0} → List (RankState V A) → Type 0
 ArePlaced {V} {A} rs = (q : ℕ) (r : RankState V A) → slice_get rs q ≡ Some r → (seat_of r).me ≡ q
 
+-- the numbers of the ranks, in their order
+abbrev pub numbers : {V A : Type 0} → List (RankState V A) → List ℕ
+numbers {V} {A} rs = map (λ (r : RankState V A). (seat_of r).me) rs
+
 -- none was refused memory, and some was
 abbrev pub AllFed : {V A : Type 0} → List (RankState V A) → Type 0
 AllFed {V} {A} rs = (q : ℕ) (r : RankState V A) → slice_get rs q ≡ Some r → (seat_of r).starved ≡ false
@@ -93,6 +97,7 @@ module _ {V A : Type 0} (Stands : World → RankState V A → Type 0) where
   pub record Took (s : RankState V A) (l : LetterValue) (t : RankState V A) (o : Result (Unit {0}) AllocError) : Type 0 where
     pub kept : (w : World) → Stands w s → TrueLetter w l → Stands w t
     pub visit : visit_of t ≡ visit_of s
+    pub me : (seat_of t).me ≡ (seat_of s).me
     pub ok : OnOk o ((seat_of t) ≡ with_inbox (seat_of s) ((seat_of s).inbox ++ l ∷ []))
 
   abbrev pub HandsAt : List (RankState V A) → LetterValue → List (RankState V A) → Result (Unit {0}) AllocError → Type 0

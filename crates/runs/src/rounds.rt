@@ -6,7 +6,7 @@ ghost use Rattle.round_runner.specs.declared.wire.Turn.TheVariants as turns;
 ghost use Rattle.rank_core.specs.Standing.{StandsIn, FitsAWorld};
 ghost use Rattle.protocol.specs.Logs.{IsPrompt, taken_since};
 ghost use Rattle.protocol.specs.Joint.{AllWorked, AllQuiet, IsStart, AllFinished, AllNew, IsBegun};
-ghost use Rattle.runs.specs.Running.{seats, ArePlaced, AllFed, SomeStarved, SameBut, IsEager, IsOverIn, SameMail, Frame, QuietAt, PopsAt, HandsAt, FitAWorld, StepsTo, AllStep, FitsItsRank, IsItsFresh, AreTogether, StayTogether, IsLegalFor, IsComplete, IsInBound, IsFewIfPrompt, HasOneMore, RunSomewhere, RunOn, StaysLegal, Ends};
+ghost use Rattle.runs.specs.Running.{seats, ArePlaced, numbers, AllFed, SomeStarved, SameBut, IsEager, IsOverIn, SameMail, Frame, QuietAt, PopsAt, HandsAt, FitAWorld, StepsTo, AllStep, FitsItsRank, IsItsFresh, AreTogether, StayTogether, IsLegalFor, IsComplete, IsInBound, IsFewIfPrompt, HasOneMore, RunSomewhere, RunOn, StaysLegal, Ends};
 
 use cell_mail::Letter;
 use hot_model::Visit;
@@ -85,6 +85,7 @@ fn post_rank<V: Visit, M: Wire>(
     ensures worked { AllWorked (seats ranks.old) → AllWorked (seats ranks.new) }
     ensures quiet { OnOk result (QuietAt (seats ranks.new) q) }
     ensures others { SameBut q ranks.old ranks.new }
+    ensures places { numbers ranks.new ≡ numbers ranks.old }
     ensures frame { Frame ranks.old (M.desk wire.old) ranks.new (M.desk wire.new) }
     ensures turn { (M.desk wire.new).turn ≡ (M.desk wire.old).turn }
 {
@@ -103,6 +104,7 @@ fn post_all<V: Visit, M: Wire>(ranks: &mut [Rank<V>], wire: &mut M) -> Result<()
     ensures legal { StaysLegal V.Visit V.Acc.Seen ranks.old (M.desk wire.old) 1 (M.desk wire.new) }
     ensures worked { AllWorked (seats ranks.old) → AllWorked (seats ranks.new) }
     ensures quiet { OnOk result (AllQuiet (seats ranks.new)) }
+    ensures places { numbers ranks.new ≡ numbers ranks.old }
     ensures frame { Frame ranks.old (M.desk wire.old) ranks.new (M.desk wire.new) }
     ensures turn { (M.desk wire.new).turn ≡ (M.desk wire.old).turn }
 {
@@ -120,6 +122,7 @@ fn deliver_one<V: Visit, M: Wire>(ranks: &mut [Rank<V>], wire: &mut M) -> Result
     ensures kept { RunOn V.Visit V.Acc.Seen M.desk ranks.old wire.old ranks.new wire.new result }
     ensures legal { StaysLegal V.Visit V.Acc.Seen ranks.old (M.desk wire.old) 1 (M.desk wire.new) }
     ensures quiet { AllQuiet (seats ranks.old) → OnOk result (AllQuiet (seats ranks.new)) }
+    ensures places { numbers ranks.new ≡ numbers ranks.old }
     ensures frame { Frame ranks.old (M.desk wire.old) ranks.new (M.desk wire.new) }
     ensures used { (M.desk wire.new).turn ≡ turns.Used }
     ensures taken { taken_since (M.desk wire.new).log ≡ true }
@@ -145,6 +148,7 @@ fn deliver<V: Visit, M: Wire>(ranks: &mut [Rank<V>], wire: &mut M) -> Result<u64
     ensures kept { RunOn V.Visit V.Acc.Seen M.desk ranks.old wire.old ranks.new wire.new result }
     ensures legal { StaysLegal V.Visit V.Acc.Seen ranks.old (M.desk wire.old) 1 (M.desk wire.new) }
     ensures quiet { AllQuiet (seats ranks.old) → OnOk result (AllQuiet (seats ranks.new)) }
+    ensures places { numbers ranks.new ≡ numbers ranks.old }
     ensures frame { Frame ranks.old (M.desk wire.old) ranks.new (M.desk wire.new) }
     ensures over { OnOk result (IsOverIn (M.desk wire.new)) }
     ensures eager { OnOk result (IsEager (M.desk wire.old) → (M.desk wire.new).pending ≡ []) }
@@ -179,6 +183,7 @@ fn one_round<R: Threads + Sync, V: Visit, M: Wire, G: Gate>(
     ensures mail { SameMail (M.desk wire.old) (M.desk wire.new) }
     ensures rounds { OnOk result (HasOneMore (M.desk wire.old).log (M.desk wire.new).log) }
     ensures free { OnOk result ((M.desk wire.new).turn ≡ turns.Free) }
+    ensures places { numbers ranks.new ≡ numbers ranks.old }
     ensures len { length ranks.new ≡ length ranks.old }
 {
     step_all(rt, ranks, (*busy as usize).max(1), gate);
@@ -212,8 +217,8 @@ fn one_round<R: Threads + Sync, V: Visit, M: Wire, G: Gate>(
 /// round takes all letters that were posted before, as under a mail for which the wire is eager.
 /// The wire keeps its mail.
 ///
-/// The error is want of memory alone, of a rank or of the wire. The list of ranks keeps its length,
-/// and letters may be pending.
+/// The error is want of memory alone, of a rank or of the wire. Also then rank `q` is at place `q`;
+/// letters may be pending.
 ///
 /// After Warren and Salmon, "A Parallel Hashed Oct-Tree N-Body Algorithm" (1993): branches are
 /// exchanged first, and cells that are not at hand are asked of their owners in batches, while
@@ -230,7 +235,7 @@ pub fn run<R: Threads + Sync, V: Visit, M: Wire, G: Gate>(
     requires new { AllNew (seats ranks.old.items) }
     requires begun { IsBegun (M.desk wire.old) }
     ensures finished { OnOk result (AllFinished (seats ranks.new.items)) }
-    ensures placed { OnOk result (ArePlaced ranks.new.items) }
+    ensures placed { ArePlaced ranks.new.items }
     ensures stand { StayTogether V.Visit V.Acc.Seen ranks.old.items ranks.new.items result }
     ensures legal { IsLegalFor V.Visit V.Acc.Seen ranks.old.items (M.desk wire.new).log }
     ensures complete { IsComplete V.Visit V.Acc.Seen ranks.old.items (M.desk wire.new).log result }

@@ -1,3 +1,4 @@
+use Rattle.std.proofs.Common.{◌∙◌}
 use Rattle.round_runner.specs.declared.wire.Turn.TheVariants.{Free, Shut}
 use Rattle.rank_core.specs.Standing.{StandsIn}
 use Rattle.runs.proofs.Runs.{frame_on, frame_turned, running_turned}
@@ -14,6 +15,7 @@ loop-wire-preserved g c =
     record {
       kept = λ v w j. e.kept v w (running_turned g.V.Visit.opens_by (StandsIn g.V.Visit g.V.Acc.Seen) v w c.loop-wire.ranks (g.M.Wire.desk c.loop-wire.wire) (g.M.Wire.desk c.more.new.self) Free c.if-more.ensures.turn (i.kept v w j));
       quiet = λ q. e.quiet (i.quiet q);
+      places = e.places ∙ i.places;
       frame = frame_on c.args.ranks.now (g.M.Wire.desk c.args.wire.now) c.loop-wire.ranks (g.M.Wire.desk c.more.new.self) c.deliver_one-in-loop-wire.new.ranks (g.M.Wire.desk c.deliver_one-in-loop-wire.new.wire)
           (frame_on c.args.ranks.now (g.M.Wire.desk c.args.wire.now) c.loop-wire.ranks (g.M.Wire.desk c.loop-wire.wire) c.loop-wire.ranks (g.M.Wire.desk c.more.new.self) i.frame
           (frame_turned c.loop-wire.ranks (g.M.Wire.desk c.loop-wire.wire) (g.M.Wire.desk c.more.new.self) Free c.if-more.ensures.turn)) e.frame;
@@ -24,6 +26,9 @@ loop-wire-preserved g c =
 pub returns-in_err-receivers-2-clause-legal : goal.returns-in_err-receivers-2-clause-legal
 returns-in_err-receivers-2-clause-legal g c = λ v w j.
     c.in_err-receivers-2.ensures.legal v w (running_turned g.V.Visit.opens_by (StandsIn g.V.Visit g.V.Acc.Seen) v w c.loop-wire.ranks (g.M.Wire.desk c.loop-wire.wire) (g.M.Wire.desk c.more.new.self) Free c.if-more.ensures.turn (c.loop-wire.invariant.kept v w j))
+
+pub returns-in_err-receivers-2-clause-places : goal.returns-in_err-receivers-2-clause-places
+returns-in_err-receivers-2-clause-places g c = c.in_err-receivers-2.ensures.places ∙ c.loop-wire.invariant.places
 
 pub returns-else-more-clause-kept : goal.returns-else-more-clause-kept
 returns-else-more-clause-kept g c = λ v w j.

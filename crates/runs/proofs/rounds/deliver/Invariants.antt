@@ -4,13 +4,14 @@ use Rattle.round_runner.specs.declared.wire.Turn.TheVariants.{Used}
 use Rattle.protocol.specs.Logs.{taken_since}
 use Rattle.protocol.specs.Joint.{AllQuiet}
 use Rattle.rank_core.specs.Standing.{StandsIn}
-use Rattle.runs.specs.Running.{seats, Running, Frame}
+use Rattle.runs.specs.Running.{seats, numbers, Running, Frame}
 use Rattle.runs.proofs.rounds.deliver.Given as goal
 
 abbrev pub invariant-loop-wire : goal.invariant-loop-wire
 invariant-loop-wire g l = record {
   kept : (v : _) (w : World) → Running g.V.Visit.opens_by (StandsIn g.V.Visit g.V.Acc.Seen) v w l.fn.ranks (g.M.Wire.desk l.fn.wire) 1 → Running g.V.Visit.opens_by (StandsIn g.V.Visit g.V.Acc.Seen) v w l.ranks (g.M.Wire.desk l.wire) 1;
   quiet : AllQuiet (seats l.fn.ranks) → AllQuiet (seats l.ranks);
+  places : numbers l.ranks ≡ numbers l.fn.ranks;
   frame : Frame l.fn.ranks (g.M.Wire.desk l.fn.wire) l.ranks (g.M.Wire.desk l.wire);
   used : (g.M.Wire.desk l.wire).turn ≡ Used;
   taken : taken_since (g.M.Wire.desk l.wire).log ≡ true;

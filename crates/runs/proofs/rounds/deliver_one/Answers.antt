@@ -1,5 +1,7 @@
+use Rattle.std.proofs.Common.{ap, ◌∙◌}
 use Rattle.rank_core.specs.Standing.{StandsIn}
-use Rattle.runs.proofs.Runs.{taken_letter, taken_within, taken_legal, taken_fresh, running_take, hands_quiet}
+use Rattle.runs.specs.Running.{numbers}
+use Rattle.runs.proofs.Runs.{taken_letter, taken_within, taken_legal, taken_fresh, running_take, hands_quiet, numbers_set}
 use Rattle.runs.proofs.rounds.deliver_one.Goals as goal
 
 pub hand-requires-clause-within : goal.hand-requires-clause-within
@@ -20,6 +22,12 @@ returns-in_err-hand-in-Some-clause-legal g c = λ v w j. taken_legal g.V.Visit.o
 
 pub returns-clause-legal : goal.returns-clause-legal
 returns-clause-legal g c = λ v w j. taken_legal g.V.Visit.opens_by (StandsIn g.V.Visit g.V.Acc.Seen) v w c.args.ranks.now (g.M.Wire.desk c.args.wire.now) (g.M.Wire.desk c.take.new.self) c.in-Some.letter j c.in-Some.ensures.taken_or_none
+
+pub returns-in_err-hand-in-Some-clause-places : goal.returns-in_err-hand-in-Some-clause-places
+returns-in_err-hand-in-Some-clause-places g c = let h = c.in_err-hand-in-Some.ensures.handed in ap (λ us. numbers us) h.3 ∙ numbers_set c.args.ranks.now c.in-Some.letter.to h.0 h.1 h.2 h.4.me
+
+pub returns-clause-places : goal.returns-clause-places
+returns-clause-places g c = let h = c.in_ok-hand-in-Some.ensures.handed in ap (λ us. numbers us) h.3 ∙ numbers_set c.args.ranks.now c.in-Some.letter.to h.0 h.1 h.2 h.4.me
 
 pub returns-clause-kept : goal.returns-clause-kept
 returns-clause-kept g c = λ v w j. running_take g.V.Visit.opens_by (StandsIn g.V.Visit g.V.Acc.Seen) v w c.args.ranks.now (g.M.Wire.desk c.args.wire.now) (g.M.Wire.desk c.take.new.self) c.in-Some.letter j c.in-Some.ensures.taken_or_none c.hand.new.ranks c.in_ok-hand-in-Some.field-0 c.in_ok-hand-in-Some.ensures.handed

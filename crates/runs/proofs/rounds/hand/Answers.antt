@@ -1,5 +1,7 @@
 use Rattle.std.proofs.Common.{◌≡◌, ◌<◌, ℕ, length, slice_get, slice_index_or, slice_set, List, ap, sym, subst, Some}
 use Rattle.protocol.proofs.Places.{get_at}
+use Rattle.rank_core.specs.Seats.{seat_of}
+use Rattle.runs.proofs.Runs.{same_number}
 use Rattle.runs.proofs.rounds.hand.Goals as goal
 
 here : {X : Type 0} (ss : List X) (q r : ℕ) (d : X) → q ≡ r → r < length ss → slice_get ss r ≡ Some (slice_index_or ss q d)
@@ -17,6 +19,11 @@ returns g c = record {
     c.take.new.self,
     here c.args.ranks.now c.to-to.result c.args.letter.to c.index-ranks-to.result c.to-to.ensures.receiver c.requires.within,
     ap (λ (i : ℕ). slice_set c.args.ranks.now i c.take.new.self) c.to-to.ensures.receiver,
-    record { kept = c.take.ensures.kept; visit = c.take.ensures.visit; ok = c.take.ensures.ok },
+    record {
+      kept = c.take.ensures.kept;
+      visit = c.take.ensures.visit;
+      me = same_number (seat_of (slice_index_or c.args.ranks.now c.to-to.result c.index-ranks-to.result)) (seat_of c.take.new.self) c.args.letter c.take.result c.take.ensures.ok c.take.ensures.err;
+      ok = c.take.ensures.ok;
+    },
   );
 }

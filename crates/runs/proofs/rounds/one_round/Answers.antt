@@ -1,7 +1,7 @@
 use Rattle.std.proofs.Common.{slice_index_or, sym, ◌∙◌}
 use Rattle.protocol.proofs.Places.{get_at}
 use Rattle.rank_core.specs.Standing.{StandsIn}
-use Rattle.runs.proofs.Runs.{running_step, worked_step, running_round, round_last, legal_round, round_err, room_left, nil_of, eager_back}
+use Rattle.runs.proofs.Runs.{running_step, worked_step, running_round, round_last, legal_round, round_err, room_left, nil_of, eager_back, numbers_step}
 use Rattle.runs.proofs.rounds.one_round.Goals as goal
 
 pub step_all-requires-clause-fit : goal.step_all-requires-clause-fit
@@ -48,3 +48,18 @@ returns-clause-legal g c = λ v w j. legal_round g.V.Visit.opens_by (StandsIn g.
 
 pub returns-clause-quiet : goal.returns-clause-quiet
 returns-clause-quiet g c = c.in_ok-busy.ensures.quiet c.in_ok-post_all.ensures.quiet
+
+pub returns-then-any_starved-clause-places : goal.returns-then-any_starved-clause-places
+returns-then-any_starved-clause-places g c = numbers_step c.args.ranks.now c.step_all.new.ranks c.step_all.ensures.len (λ k d lt. (c.step_all.ensures.each k d lt).me)
+
+pub returns-in_err-post_all-clause-places : goal.returns-in_err-post_all-clause-places
+returns-in_err-post_all-clause-places g c = c.in_err-post_all.ensures.places ∙ numbers_step c.args.ranks.now c.step_all.new.ranks c.step_all.ensures.len (λ k d lt. (c.step_all.ensures.each k d lt).me)
+
+pub returns-then-pending-eq0-clause-places : goal.returns-then-pending-eq0-clause-places
+returns-then-pending-eq0-clause-places g c = c.in_ok-post_all.ensures.places ∙ numbers_step c.args.ranks.now c.step_all.new.ranks c.step_all.ensures.len (λ k d lt. (c.step_all.ensures.each k d lt).me)
+
+pub returns-in_err-busy-clause-places : goal.returns-in_err-busy-clause-places
+returns-in_err-busy-clause-places g c = c.in_err-busy.ensures.places ∙ c.in_ok-post_all.ensures.places ∙ numbers_step c.args.ranks.now c.step_all.new.ranks c.step_all.ensures.len (λ k d lt. (c.step_all.ensures.each k d lt).me)
+
+pub returns-clause-places : goal.returns-clause-places
+returns-clause-places g c = c.in_ok-busy.ensures.places ∙ c.in_ok-post_all.ensures.places ∙ numbers_step c.args.ranks.now c.step_all.new.ranks c.step_all.ensures.len (λ k d lt. (c.step_all.ensures.each k d lt).me)

@@ -2,7 +2,7 @@ use Rattle.std.proofs.Common.{◌≡◌, ℕ, ◌<◌}
 use Rattle.hot_model.specs.World.{World}
 use Rattle.protocol.specs.Joint.{AllWorked}
 use Rattle.rank_core.specs.Standing.{StandsIn}
-use Rattle.runs.specs.Running.{seats, Running, Frame, QuietAt}
+use Rattle.runs.specs.Running.{seats, numbers, Running, Frame, QuietAt}
 use Rattle.runs.proofs.rounds.post_all.Given as goal
 
 abbrev pub invariant-loop-q : goal.invariant-loop-q
@@ -10,6 +10,7 @@ invariant-loop-q g l = record {
   kept : (v : _) (w : World) → Running g.V.Visit.opens_by (StandsIn g.V.Visit g.V.Acc.Seen) v w l.initial.ranks (g.M.Wire.desk l.initial.wire) 1 → Running g.V.Visit.opens_by (StandsIn g.V.Visit g.V.Acc.Seen) v w l.ranks (g.M.Wire.desk l.wire) 1;
   worked : AllWorked (seats l.initial.ranks) → AllWorked (seats l.ranks);
   quiet : (p : ℕ) → p < l.q → QuietAt (seats l.ranks) p;
+  places : numbers l.ranks ≡ numbers l.initial.ranks;
   frame : Frame l.initial.ranks (g.M.Wire.desk l.initial.wire) l.ranks (g.M.Wire.desk l.wire);
   turn : (g.M.Wire.desk l.wire).turn ≡ (g.M.Wire.desk l.initial.wire).turn;
 }

@@ -3,7 +3,7 @@ use Rattle.round_runner.specs.Desk.{Desk}
 use Rattle.rank_core.specs.Standing.{StandsIn}
 use Rattle.protocol.specs.Logs.{Legal}
 use Rattle.runs.specs.Running.{Running}
-use Rattle.runs.proofs.Runs.{pops_worked, pops_others, pops_len, pops_smaller, pops_quiet, running_post, running_none, frame_on, frame_post}
+use Rattle.runs.proofs.Runs.{pops_worked, pops_others, pops_len, pops_numbers, pops_smaller, pops_quiet, running_post, running_none, frame_on, frame_post}
 use Rattle.runs.proofs.rounds.post_rank.Goals as goal
 
 pub returns-in-Err-clause-legal : goal.returns-in-Err-clause-legal
@@ -14,6 +14,9 @@ returns-in-Err-clause-worked g c = λ wk. pops_worked (StandsIn g.V.Visit g.V.Ac
 
 pub returns-in-Err-clause-others : goal.returns-in-Err-clause-others
 returns-in-Err-clause-others g c = λ p ne. pops_others (StandsIn g.V.Visit g.V.Acc.Seen) c.loop-letter.ranks c.args.q (Some c.in-Some.letter) c.pop_from.new.ranks c.in-Some.ensures.popped p ne ∙ c.loop-letter.invariant.others p ne
+
+pub returns-in-Err-clause-places : goal.returns-in-Err-clause-places
+returns-in-Err-clause-places g c = pops_numbers (StandsIn g.V.Visit g.V.Acc.Seen) c.loop-letter.ranks c.args.q (Some c.in-Some.letter) c.pop_from.new.ranks c.in-Some.ensures.popped ∙ c.loop-letter.invariant.places
 
 pub loop-letter-smaller : goal.loop-letter-smaller
 loop-letter-smaller g c = pops_smaller (StandsIn g.V.Visit g.V.Acc.Seen) c.loop-letter.ranks c.args.q c.in-Some.letter c.pop_from.new.ranks c.in-Some.ensures.popped
@@ -27,6 +30,7 @@ loop-letter-preserved g c =
       kept = λ v w j. subst (λ (x : Desk). Running g.V.Visit.opens_by (StandsIn g.V.Visit g.V.Acc.Seen) v w c.pop_from.new.ranks x 1) (sym c.in-Ok.ensures.posted_or_unchanged) (running_post g.V.Visit.opens_by (StandsIn g.V.Visit g.V.Acc.Seen) v w c.loop-letter.ranks (g.M.Wire.desk c.loop-letter.wire) c.args.q c.in-Some.letter c.pop_from.new.ranks c.in-Some.ensures.popped (i.kept v w j));
       worked = λ wk. pops_worked (StandsIn g.V.Visit g.V.Acc.Seen) c.loop-letter.ranks c.args.q (Some c.in-Some.letter) c.pop_from.new.ranks c.in-Some.ensures.popped (i.worked wk);
       others = λ p ne. pops_others (StandsIn g.V.Visit g.V.Acc.Seen) c.loop-letter.ranks c.args.q (Some c.in-Some.letter) c.pop_from.new.ranks c.in-Some.ensures.popped p ne ∙ i.others p ne;
+      places = pops_numbers (StandsIn g.V.Visit g.V.Acc.Seen) c.loop-letter.ranks c.args.q (Some c.in-Some.letter) c.pop_from.new.ranks c.in-Some.ensures.popped ∙ i.places;
       frame = frame_on c.args.ranks.now (g.M.Wire.desk c.args.wire.now) c.loop-letter.ranks (g.M.Wire.desk c.loop-letter.wire) c.pop_from.new.ranks (g.M.Wire.desk c.post.new.self) i.frame
           (frame_post c.loop-letter.ranks (g.M.Wire.desk c.loop-letter.wire) c.in-Some.letter c.pop_from.new.ranks (g.M.Wire.desk c.post.new.self) n c.in-Ok.ensures.posted_or_unchanged);
       turn = ap (λ (x : Desk). x.turn) c.in-Ok.ensures.posted_or_unchanged ∙ i.turn;
@@ -43,6 +47,9 @@ returns-clause-quiet g c = pops_quiet (StandsIn g.V.Visit g.V.Acc.Seen) c.loop-l
 
 pub returns-clause-others : goal.returns-clause-others
 returns-clause-others g c = λ p ne. pops_others (StandsIn g.V.Visit g.V.Acc.Seen) c.loop-letter.ranks c.args.q None c.pop_from.new.ranks c.in_default.ensures.popped p ne ∙ c.loop-letter.invariant.others p ne
+
+pub returns-clause-places : goal.returns-clause-places
+returns-clause-places g c = pops_numbers (StandsIn g.V.Visit g.V.Acc.Seen) c.loop-letter.ranks c.args.q None c.pop_from.new.ranks c.in_default.ensures.popped ∙ c.loop-letter.invariant.places
 
 pub returns-clause-legal : goal.returns-clause-legal
 returns-clause-legal g c = λ v w j. (c.loop-letter.invariant.kept v w j).joint.legal

@@ -2,7 +2,7 @@ use Rattle.std.proofs.Common.{◌≡◌, ◌≢◌, ℕ, ◌<◌, slice_get, len
 use Rattle.hot_model.specs.World.{World}
 use Rattle.protocol.specs.Joint.{AllWorked}
 use Rattle.rank_core.specs.Standing.{StandsIn}
-use Rattle.runs.specs.Running.{seats, Running, Frame, outbox_len}
+use Rattle.runs.specs.Running.{seats, numbers, Running, Frame, outbox_len}
 use Rattle.runs.proofs.rounds.post_rank.Given as goal
 
 abbrev pub invariant-loop-letter : goal.invariant-loop-letter
@@ -11,6 +11,7 @@ invariant-loop-letter g l = record {
   kept : (v : _) (w : World) → Running g.V.Visit.opens_by (StandsIn g.V.Visit g.V.Acc.Seen) v w l.initial.ranks (g.M.Wire.desk l.initial.wire) 1 → Running g.V.Visit.opens_by (StandsIn g.V.Visit g.V.Acc.Seen) v w l.ranks (g.M.Wire.desk l.wire) 1;
   worked : AllWorked (seats l.initial.ranks) → AllWorked (seats l.ranks);
   others : (p : ℕ) → p ≢ l.q → slice_get l.ranks p ≡ slice_get l.initial.ranks p;
+  places : numbers l.ranks ≡ numbers l.initial.ranks;
   frame : Frame l.initial.ranks (g.M.Wire.desk l.initial.wire) l.ranks (g.M.Wire.desk l.wire);
   turn : (g.M.Wire.desk l.wire).turn ≡ (g.M.Wire.desk l.initial.wire).turn;
 }

@@ -2,9 +2,9 @@ use Rattle.std.proofs.Common.{◌≡◌, length, refl, ap, sym, subst, ◌∙◌
 use Rattle.round_runner.specs.Desk.{rounds_in}
 use Rattle.protocol.specs.Joint.{AllQuiet, AllFinished}
 use Rattle.rank_core.specs.Standing.{StandsIn}
-use Rattle.runs.specs.Running.{seats, ArePlaced, Together, Running}
+use Rattle.runs.specs.Running.{seats, numbers, Together, Running}
 use Rattle.protocol.proofs.Keeping.{few_rounds_of}
-use Rattle.runs.proofs.Runs.{running_new, begun_start, as_slice, ends_last, ends_more, back_in, rounds_small, below_word, same_on, eager_on}
+use Rattle.runs.proofs.Runs.{running_new, begun_start, as_slice, ends_last, ends_more, back_in, rounds_small, below_word, same_on, eager_on, placed_by, new_placed}
 use Rattle.runs.proofs.rounds.run.Goals as goal
 
 pub loop-last-init : goal.loop-last-init
@@ -15,6 +15,7 @@ loop-last-init g c = record {
   free = c.requires.begun.turn;
   mail = record { mail = refl; eager = refl };
   rounds = sym (ap rounds_in c.requires.begun.log);
+  places = refl;
   len = refl;
 }
 
@@ -34,7 +35,10 @@ pub returns-then-last-clause-finished : goal.returns-then-last-clause-finished
 returns-then-last-clause-finished g c = subst (λ us. AllFinished (seats us)) (sym (back_in c.one_round.new.ranks c.loop-last.ranks.items c.loop-last.ranks.len (let v : length c.as_mut_slice.result.now ≡ length c.loop-last.ranks.items = ap length c.as_mut_slice.ensures.value in let o = c.loop-last.ranks.ok.0 in let n = c.in_ok-last.ensures.len in omega arith))) (ends_last g.V.Visit.opens_by (StandsIn g.V.Visit g.V.Acc.Seen) c.requires.together.0 c.requires.together.1 c.one_round.new.ranks (g.M.Wire.desk c.one_round.new.wire) c.in_ok-last.last c.if-last.true (c.in_ok-last.ensures.kept c.requires.together.0 c.requires.together.1 (as_slice g.V.Visit.opens_by (StandsIn g.V.Visit g.V.Acc.Seen) c.requires.together.0 c.requires.together.1 c.loop-last.ranks.items c.as_mut_slice.result.now (g.M.Wire.desk c.loop-last.wire) c.as_mut_slice.ensures.value (c.loop-last.invariant.kept c.requires.together.0 c.requires.together.1 c.requires.together.2)))).finished
 
 pub returns-then-last-clause-placed : goal.returns-then-last-clause-placed
-returns-then-last-clause-placed g c = subst (λ us. ArePlaced us) (sym (back_in c.one_round.new.ranks c.loop-last.ranks.items c.loop-last.ranks.len (let v : length c.as_mut_slice.result.now ≡ length c.loop-last.ranks.items = ap length c.as_mut_slice.ensures.value in let o = c.loop-last.ranks.ok.0 in let n = c.in_ok-last.ensures.len in omega arith))) (ends_last g.V.Visit.opens_by (StandsIn g.V.Visit g.V.Acc.Seen) c.requires.together.0 c.requires.together.1 c.one_round.new.ranks (g.M.Wire.desk c.one_round.new.wire) c.in_ok-last.last c.if-last.true (c.in_ok-last.ensures.kept c.requires.together.0 c.requires.together.1 (as_slice g.V.Visit.opens_by (StandsIn g.V.Visit g.V.Acc.Seen) c.requires.together.0 c.requires.together.1 c.loop-last.ranks.items c.as_mut_slice.result.now (g.M.Wire.desk c.loop-last.wire) c.as_mut_slice.ensures.value (c.loop-last.invariant.kept c.requires.together.0 c.requires.together.1 c.requires.together.2)))).placed
+returns-then-last-clause-placed g c = placed_by c.args.ranks.now.items _ (ap (λ us. numbers us) (back_in c.one_round.new.ranks c.loop-last.ranks.items c.loop-last.ranks.len (let v : length c.as_mut_slice.result.now ≡ length c.loop-last.ranks.items = ap length c.as_mut_slice.ensures.value in let o = c.loop-last.ranks.ok.0 in let n = c.in_ok-last.ensures.len in omega arith)) ∙ c.in_ok-last.ensures.places ∙ ap (λ us. numbers us) c.as_mut_slice.ensures.value ∙ c.loop-last.invariant.places) (new_placed c.args.ranks.now.items c.requires.new)
+
+pub returns-in_err-last-clause-placed : goal.returns-in_err-last-clause-placed
+returns-in_err-last-clause-placed g c = placed_by c.args.ranks.now.items _ (ap (λ us. numbers us) (back_in c.one_round.new.ranks c.loop-last.ranks.items c.loop-last.ranks.len (let v : length c.as_mut_slice.result.now ≡ length c.loop-last.ranks.items = ap length c.as_mut_slice.ensures.value in let o = c.loop-last.ranks.ok.0 in let n = c.in_err-last.ensures.len in omega arith)) ∙ c.in_err-last.ensures.places ∙ ap (λ us. numbers us) c.as_mut_slice.ensures.value ∙ c.loop-last.invariant.places) (new_placed c.args.ranks.now.items c.requires.new)
 
 pub returns-then-last-clause-stand : goal.returns-then-last-clause-stand
 returns-then-last-clause-stand g c = λ v w t. subst (λ us. Together (StandsIn g.V.Visit g.V.Acc.Seen) v w us) (sym (back_in c.one_round.new.ranks c.loop-last.ranks.items c.loop-last.ranks.len (let v : length c.as_mut_slice.result.now ≡ length c.loop-last.ranks.items = ap length c.as_mut_slice.ensures.value in let o = c.loop-last.ranks.ok.0 in let n = c.in_ok-last.ensures.len in omega arith))) (ends_last g.V.Visit.opens_by (StandsIn g.V.Visit g.V.Acc.Seen) v w c.one_round.new.ranks (g.M.Wire.desk c.one_round.new.wire) c.in_ok-last.last c.if-last.true (c.in_ok-last.ensures.kept v w (as_slice g.V.Visit.opens_by (StandsIn g.V.Visit g.V.Acc.Seen) v w c.loop-last.ranks.items c.as_mut_slice.result.now (g.M.Wire.desk c.loop-last.wire) c.as_mut_slice.ensures.value (c.loop-last.invariant.kept v w t)))).together
@@ -70,6 +74,7 @@ loop-last-preserved g c =
       free = c.in_ok-last.ensures.free;
       mail = same_on (g.M.Wire.desk c.args.wire.now) (g.M.Wire.desk c.loop-last.wire) (g.M.Wire.desk c.one_round.new.wire) c.loop-last.invariant.mail c.in_ok-last.ensures.mail;
       rounds = (let r = c.in_ok-last.ensures.rounds in let i = c.loop-last.invariant.rounds in omega arith);
+      places = ap (λ us. numbers us) e ∙ c.in_ok-last.ensures.places ∙ ap (λ us. numbers us) c.as_mut_slice.ensures.value ∙ c.loop-last.invariant.places;
       len = ap length e ∙ c.in_ok-last.ensures.len ∙ ap length c.as_mut_slice.ensures.value ∙ c.loop-last.invariant.len;
     }
 

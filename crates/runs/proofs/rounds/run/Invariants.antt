@@ -4,7 +4,7 @@ use Rattle.round_runner.specs.Desk.{rounds_in}
 use Rattle.round_runner.specs.declared.wire.Turn.TheVariants.{Free}
 use Rattle.protocol.specs.Joint.{AllQuiet, IsStart}
 use Rattle.rank_core.specs.Standing.{StandsIn}
-use Rattle.runs.specs.Running.{most_rounds, seats, SameMail, Together, Running}
+use Rattle.runs.specs.Running.{most_rounds, seats, numbers, SameMail, Together, Running}
 use Rattle.runs.proofs.rounds.run.Given as goal
 
 abbrev pub invariant-loop-last : goal.invariant-loop-last
@@ -15,6 +15,7 @@ invariant-loop-last g l = record {
   free : (g.M.Wire.desk l.wire).turn ≡ Free;
   mail : SameMail (g.M.Wire.desk l.fn.wire) (g.M.Wire.desk l.wire);
   rounds : l.rounds ≡ rounds_in (g.M.Wire.desk l.wire).log;
+  places : numbers l.ranks.items ≡ numbers l.fn.ranks.items;
   len : length l.ranks.items ≡ length l.fn.ranks.items;
 }
 
