@@ -1,7 +1,7 @@
 pub mod Settles
 pub mod Noted
 pub mod Slots
-pub mod Indexed
+pub mod Tabled
 pub mod Keeping
 pub mod Openings
 pub mod Turnings

@@ -64,7 +64,7 @@ impl<V: Visit> Walk<V> {
             accs,
             held: Vec::new(alloc),
             left: 0,
-            asks: Asks::new(alloc),
+            asks: Asks::new(alloc, piece.len())?,
             given: 0,
             tally: Tally::new(alloc),
             started: false,
@@ -157,9 +157,9 @@ impl<V: Visit> Walk<V> {
         ensures same { IsSameWalk self.old self.new × IsSameStage self.old self.new }
     {
         if self.given < self.asks.len() {
-            let (owner, key) = self.asks.at(self.given);
+            let ask = self.asks.at(self.given);
             self.given += 1;
-            Some(Ask { owner, key })
+            Some(ask)
         } else {
             None
         }
