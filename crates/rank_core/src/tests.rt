@@ -120,7 +120,7 @@ fn second<V: Visit>(rt: &impl Abort, alloc: Global, visit: V) -> Rank<V>
     Rank::new(alloc, 1, 2, &own, Some(NEAR), None, 8, visit).expect(rt, "memory")
 }
 
-/// Two new ranks tell each other their branches: one record each, so 74 bytes.
+/// Two new ranks tell each other their branches: one record each, so 170 bytes.
 fn tell<V: Visit>(rt: &impl Abort, left: &mut Rank<V>, right: &mut Rank<V>)
     requires left_stands { StandsIn V.Visit V.Acc.Seen samples.two left.old }
     requires right_stands { StandsIn V.Visit V.Acc.Seen samples.two right.old }
@@ -137,8 +137,8 @@ fn tell<V: Visit>(rt: &impl Abort, left: &mut Rank<V>, right: &mut Rank<V>)
     let to_left = next(rt, right, Kind::Branches, 0);
     quiet(rt, left);
     quiet(rt, right);
-    assert_eq!(rt; to_right.bytes().len(), 74);
-    assert_eq!(rt; to_left.bytes().len(), 74);
+    assert_eq!(rt; to_right.bytes().len(), 170);
+    assert_eq!(rt; to_left.bytes().len(), 170);
     assert_eq!(rt; to_left.count(), 1);
     hand(rt, left, to_left);
     hand(rt, right, to_right);
@@ -165,11 +165,11 @@ fn ask<V: Visit>(rt: &impl Abort, left: &mut Rank<V>, right: &mut Rank<V>)
     quiet(rt, right);
     assert_eq!(rt;
         to_right.bytes(),
-        b"\x01\x02\x01\x00\x00\x00\x04\x00\x00\x00\x00\x00\x00\x02".as_slice()
+        b"\x02\x02\x01\x00\x00\x00\x04\x00\x00\x00\x00\x00\x00\x02".as_slice()
     );
     assert_eq!(rt;
         to_left.bytes(),
-        b"\x01\x02\x01\x00\x00\x00\x00\x00\x00\x00\x00\x00\x00\x02".as_slice()
+        b"\x02\x02\x01\x00\x00\x00\x00\x00\x00\x00\x00\x00\x00\x02".as_slice()
     );
     hand(rt, left, to_left);
     hand(rt, right, to_right);
@@ -303,7 +303,7 @@ fn trio<V: Visit>(
     let (a_to_b, a_to_c) = tell_two(rt, &mut a, 1, 2);
     let (b_to_a, b_to_c) = tell_two(rt, &mut b, 0, 2);
     let (c_to_a, c_to_b) = tell_two(rt, &mut c, 0, 1);
-    assert_eq!(rt; a_to_b.bytes().len(), 74);
+    assert_eq!(rt; a_to_b.bytes().len(), 170);
     assert_eq!(rt; b_to_a.bytes().len(), 6);
     hear_two(rt, &mut a, b_to_a, c_to_a);
     hear_two(rt, &mut b, c_to_b, a_to_b);
