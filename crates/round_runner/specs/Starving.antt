@@ -30,10 +30,10 @@ abbrev pub new_starve : ℕ → StarveState
 new_starve rank = record { pending = []; log = []; turn = Free; mail = Prompt; rank = rank }
 
 -- whether a letter is to another rank
-abbrev pub is_past : ℕ → LetterValue → Bool
-is_past rank letter = not (nat_eq letter.to rank)
+abbrev pub is_to_another : ℕ → LetterValue → Bool
+is_to_another rank letter = not (nat_eq letter.to rank)
 
 -- the place, among the pending letters, of the one that `take` gives: the oldest that is to another rank, and the oldest of
 -- all where there is none
 abbrev pub starve_place : ℕ → List LetterValue → ℕ
-starve_place rank pending = unwrap_or (position (is_past rank) pending) 0
+starve_place rank pending = unwrap_or (position (is_to_another rank) pending) 0

@@ -5,7 +5,7 @@ ghost use Rattle.std.specs.VecDeque.{deque_len};
 ghost use Rattle.round_runner.specs.Desk.{letters_in, rounds_in, begun, posted, Takes, turned, rounded};
 ghost use Rattle.round_runner.specs.Notes.{note_of};
 ghost use Rattle.round_runner.specs.Policies.{new_state, desk_of, mem_eager, seed_of, place_of, more_of, draw_after, without_at, shut_state};
-ghost use Rattle.round_runner.specs.Starving.{is_past};
+ghost use Rattle.round_runner.specs.Starving.{is_to_another};
 
 use crate::draw::{drawn, next_state};
 use crate::wire::Turn;
@@ -87,8 +87,8 @@ impl MemWire {
 
     /// The place of the oldest pending letter that is not to this rank; None exactly where all are
     /// to it.
-    pub(crate) fn oldest_past(&self, rank: u32) -> Option<usize>
-        ensures place { result ≡ position (is_past rank) self.now.pending }
+    pub(crate) fn oldest_to_another(&self, rank: u32) -> Option<usize>
+        ensures place { result ≡ position (is_to_another rank) self.now.pending }
     {
         self.waiting
             .iter()

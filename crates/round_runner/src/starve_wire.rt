@@ -93,7 +93,7 @@ impl Wire for StarveWire {
         if self.wire.pending() == 0 {
             return None;
         }
-        let place = self.wire.oldest_past(self.rank).unwrap_or(0);
+        let place = self.wire.oldest_to_another(self.rank).unwrap_or(0);
         Some(self.wire.take_at(place))
     }
 

@@ -3,7 +3,7 @@ use super::ranks::{ROW, ROW_PULLS, SINGLE_REPORT, TWO_RANKS};
 use super::{AMPLE, MASSES, PAIR, PLACES, PULLS, call, call_over, check, plain_file};
 use crate::Status;
 use round_runner::{Entry, Log, MemWire, OpenGate, StarveWire};
-use std::alloc::{AllocError, Global};
+use std::alloc::Global;
 use std::process::Abort;
 use std::test::Fail;
 use std::thread::Threads;
