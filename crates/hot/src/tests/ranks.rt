@@ -19,7 +19,8 @@ pub(super) const SINGLE_REPORT: &[u8] =
 /// Three bodies in a row, and their forces.
 pub(super) const ROW: [i32; 9] = [0, 0, 0, 1, 0, 0, 2, 0, 0];
 
-pub(super) const ROW_PULLS: &[u8] = b"# hot forces 1\n0 8932854 0 0\n1 0 0 0\n2 -8932854 0 0\n# end 3\n";
+pub(super) const ROW_PULLS: &[u8] =
+    b"# hot forces 1\n0 8932854 0 0\n1 0 0 0\n2 -8932854 0 0\n# end 3\n";
 
 #[test]
 fn forces_under_each_mail(rt: HostRuntime) -> Result<(), Fail> {

@@ -58,7 +58,10 @@ fn three_bodies_over_two_wires(rt: HostRuntime) -> Result<(), Fail> {
     let ended = call_over(&rt, alloc, words, &input, AMPLE, &mut prompt, &OpenGate)?;
     check(&rt, &ended, Status::Done, ROW_PULLS, b"");
     // one letter a round, and then one round more; else branches, asks, answers and the last round
-    assert_eq!(&rt; (starving.log().letters(), starving.log().rounds()), (4044, 4045));
+    assert_eq!(&rt;
+        (starving.log().letters(), starving.log().rounds()),
+        (4044, 4045)
+    );
     assert_eq!(&rt; (prompt.log().letters(), prompt.log().rounds()), (4044, 4));
     Ok(())
 }
