@@ -58,6 +58,15 @@ FAR_REPORTS = {
     2: report([(1, 1, 1), (1, 1, 1)], {8: 0, 12: 1}, 6, 4, 3, 9),
 }
 
+# Two pairs in opposite corners, parted on level 21 alone. Each rank asks for the cells of the other level by level, for
+# that of level l in round 2 * l, the last two at once: 21 asks and 21 answers each way.
+CORNERS = file_of(BARE, (0, 0, 0), (1, 0, 0), (2097150, 2097151, 2097151), (2097151, 2097151, 2097151))
+CORNER_FORCES = forces(*(f"{k} {ax} 0 0" for k, ax in enumerate([5931651, -5931651] * 2)))
+
+
+def corner_report(rounds):
+    return report([(2, 90, 22)] * 2, {8: 0, 15: 1}, 86, rounds, 45, 93)
+
 
 SDF_HEAD = """# SDF
 parameter byteorder = 0x78563412;
@@ -166,6 +175,10 @@ RUNS = [
     (f"{TWO_WORDS} --report --form sdf -", TWO, TWO_SDF, two_report(4)),
     ("forces --form sdf --eps 1 --theta 0/1", STRONG, STRONG_SDF, ""),
     ("forces --form sdf", file_of(BARE), sdf(), ""),
+    *[
+        (f"forces --theta 0/1 --leaf 1 --ranks 2 --report --mail {mail}", CORNERS, CORNER_FORCES, corner_report(rounds))
+        for mail, rounds in (("prompt", 44), ("last", 44), ("single", 87))
+    ],
     ("forces --ranks 2 --report", file_of(BARE), forces(), report([(0, 0, 0)] * 2, {}, 2, 2, 0, 3)),
     ("forces --report", file_of(BARE), forces(), report([(0, 0, 0)], {}, 0, 1, 0, 1)),
     ("make --bodies 1 --seed 0", b"", made(1, ONE_MADE), ""),

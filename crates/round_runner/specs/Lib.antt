@@ -2,3 +2,4 @@ pub mod Notes
 pub mod Desk
 pub mod Draws
 pub mod Policies
+pub mod Starving

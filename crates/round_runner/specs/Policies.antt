@@ -1,12 +1,14 @@
 -- The policies of a wire in memory.
-use Rattle.std.specs.Prelude.{ℕ, ◌-◌, ◌%◌, ◌^◌, Bool, true, false, nat_lt, List, []}
+use Rattle.std.specs.Prelude.{ℕ, ◌-◌, ◌%◌, ◌^◌, Bool, true, false, nat_lt, List, [], ◌∷◌, remove}
 use Rattle.hot_model.specs.declared.mail.Mail.{Mail}
 use Rattle.hot_model.specs.declared.mail.Mail.TheVariants.{Prompt, Last, Single, Seeded}
 use Rattle.cell_mail.specs.Letters.{LetterValue}
 use Rattle.round_runner.specs.declared.entry.Entry.{Entry}
+use Rattle.round_runner.specs.declared.entry.Entry.TheVariants.{Taken}
 use Rattle.round_runner.specs.declared.wire.Turn.{Turn}
-use Rattle.round_runner.specs.declared.wire.Turn.TheVariants.{Free}
+use Rattle.round_runner.specs.declared.wire.Turn.TheVariants.{Free, Used, Shut}
 use Rattle.round_runner.specs.Desk.{Desk}
+use Rattle.round_runner.specs.Notes.{note_of}
 use Rattle.round_runner.specs.Draws.{next_state, drawn}
 
 -- a wire in memory, as its callers see it
@@ -27,6 +29,14 @@ mem_eager (Seeded seed) = false
 -- a wire in memory as a wire
 abbrev pub desk_of : MemState → Desk
 desk_of w = record { pending = w.pending; log = w.log; turn = w.turn; mail = w.mail; eager = mem_eager }
+
+-- after the letter at a place was taken, whatever the mail
+abbrev pub without_at : MemState → ℕ → LetterValue → MemState
+without_at w place letter = record { pending = remove w.pending place; log = Taken (note_of letter) ∷ w.log; turn = Used; mail = w.mail; draw = w.draw }
+
+-- the same wire, which gives no more letters in this round
+abbrev pub shut_state : MemState → MemState
+shut_state w = record { pending = w.pending; log = w.log; turn = Shut; mail = w.mail; draw = w.draw }
 
 -- a new wire
 abbrev pub new_state : MemState

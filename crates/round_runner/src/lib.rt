@@ -11,6 +11,7 @@ mod gate;
 mod log;
 mod meet_gate;
 mod mem_wire;
+mod starve_wire;
 #[cfg(test)]
 mod tests;
 mod wire;
@@ -21,4 +22,5 @@ pub use gate::{Gate, OpenGate};
 pub use log::Log;
 pub use meet_gate::MeetGate;
 pub use mem_wire::MemWire;
+pub use starve_wire::StarveWire;
 pub use wire::{PostRefused, Turn, Wire};

@@ -1,9 +1,11 @@
 // A wire in memory.
 ghost use Rattle.std.specs.Prelude.{◌≡◌, ◌++◌, ◌∷◌, [], ◌+◌, ◌-◌, ◌<◌, ◌≤◌, ◌⊎◌, length, map, remove, slice_get, true, if◌then◌else◌, IfOk, OnOk, OnErr, IfSome, OnSome, Some, MatchOption, MatchResult};
+ghost use Rattle.std.specs.List.{position};
 ghost use Rattle.std.specs.VecDeque.{deque_len};
 ghost use Rattle.round_runner.specs.Desk.{letters_in, rounds_in, begun, posted, Takes, turned, rounded};
 ghost use Rattle.round_runner.specs.Notes.{note_of};
-ghost use Rattle.round_runner.specs.Policies.{new_state, desk_of, mem_eager, seed_of, place_of, more_of, draw_after};
+ghost use Rattle.round_runner.specs.Policies.{new_state, desk_of, mem_eager, seed_of, place_of, more_of, draw_after, without_at, shut_state};
+ghost use Rattle.round_runner.specs.Starving.{is_to_another};
 
 use crate::draw::{drawn, next_state};
 use crate::wire::Turn;
@@ -81,6 +83,37 @@ impl MemWire {
         ensures log { result.now.newest_first ≡ self.now.log }
     {
         &self.log
+    }
+
+    /// The place of the oldest pending letter that is not to this rank; None exactly where all are
+    /// to it.
+    pub(crate) fn oldest_to_another(&self, rank: u32) -> Option<usize>
+        ensures place { result ≡ position (is_to_another rank) self.now.pending }
+    {
+        self.waiting
+            .iter()
+            .position(|waiting| waiting.letter.to() != rank)
+    }
+
+    /// Takes the letter at a place out of the pending ones.
+    pub(crate) fn take_at(&mut self, place: usize) -> Letter
+        requires within { place < length self.old.pending }
+        ensures letter { slice_get self.old.pending place ≡ Some result }
+        ensures left { self.new ≡ without_at self.old place result }
+    {
+        let Some(Waiting { letter, note }) = self.waiting.remove(place) else {
+            unreachable!()
+        };
+        self.log.add(Entry::Taken(note));
+        self.turn = Turn::Used;
+        letter
+    }
+
+    /// Gives no more letters in this round.
+    pub(crate) fn shut(&mut self)
+        ensures shut { self.new ≡ shut_state self.old }
+    {
+        self.turn = Turn::Shut;
     }
 }
 
@@ -176,12 +209,8 @@ impl Wire for MemWire {
             return None;
         }
         let (place, draw) = place_and_draw(self.mail, self.draw, self.waiting.len());
-        let Some(Waiting { letter, note }) = self.waiting.remove(place) else {
-            unreachable!()
-        };
-        self.log.add(Entry::Taken(note));
+        let letter = self.take_at(place);
         self.draw = draw;
-        self.turn = Turn::Used;
         Some(letter)
     }
 

@@ -6,20 +6,21 @@ use std::alloc::{AllocError, Global};
 use std::test::Fail;
 
 /// Two bodies on two ranks, each of which opens every cell.
-const TWO_RANKS: &str = "forces --eps 1 --theta 0/1 --ranks 2";
+pub(super) const TWO_RANKS: &str = "forces --eps 1 --theta 0/1 --ranks 2";
 
 /// What is told of the two bodies on two ranks.
 const PAIR_REPORT: &[u8] =
     b"# hot report 1\nrank 0 bodies 1 opened 1 asks 1\nrank 1 bodies 1 opened 1 asks 1\nbranch 144115188075855872 rank 0\nbranch 144115188075855876 rank 1\nletters 6 rounds 4 cells 3 bound 9\n# end report\n";
 
 /// The same where one letter is taken in each round.
-const SINGLE_REPORT: &[u8] =
+pub(super) const SINGLE_REPORT: &[u8] =
     b"# hot report 1\nrank 0 bodies 1 opened 1 asks 1\nrank 1 bodies 1 opened 1 asks 1\nbranch 144115188075855872 rank 0\nbranch 144115188075855876 rank 1\nletters 6 rounds 7 cells 3 bound 9\n# end report\n";
 
 /// Three bodies in a row, and their forces.
-const ROW: [i32; 9] = [0, 0, 0, 1, 0, 0, 2, 0, 0];
+pub(super) const ROW: [i32; 9] = [0, 0, 0, 1, 0, 0, 2, 0, 0];
 
-const ROW_PULLS: &[u8] = b"# hot forces 1\n0 8932854 0 0\n1 0 0 0\n2 -8932854 0 0\n# end 3\n";
+pub(super) const ROW_PULLS: &[u8] =
+    b"# hot forces 1\n0 8932854 0 0\n1 0 0 0\n2 -8932854 0 0\n# end 3\n";
 
 #[test]
 fn forces_under_each_mail(rt: HostRuntime) -> Result<(), Fail> {
