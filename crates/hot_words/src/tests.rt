@@ -251,6 +251,44 @@ fn refused_words(rt: HostRuntime) -> Result<(), Fail> {
         ("sample --bodies 1 -", WordCode::A7, 3, "A7 extra word -"),
         ("forces --report x y", WordCode::A7, 2, "A7 extra word x"),
         (
+            "forces --eps 0 --none",
+            WordCode::A6,
+            2,
+            "A6 bad value 0 for --eps",
+        ),
+        (
+            "forces --none --eps 0",
+            WordCode::A3,
+            1,
+            "A3 unknown option --none",
+        ),
+        (
+            "forces --eps 1 --none 2 --eps 1",
+            WordCode::A3,
+            3,
+            "A3 unknown option --none",
+        ),
+    ] {
+        let words = list(alloc, words)?;
+        let Err(fault) = read_words(&words) else {
+            assert!(rt; false);
+            return Ok(());
+        };
+        assert_eq!(rt; fault.code, code);
+        assert_eq!(rt; fault.place, place);
+        let text = refusal(&words, fault);
+        let (front, word, between, option) = (text.front, text.word, text.between, text.option);
+        let told = format!(in alloc; "{front}{word}{between}{option}")?;
+        assert_eq!(rt; told.as_str(), want);
+    }
+    Ok(())
+}
+
+#[test]
+fn refused_moments(rt: HostRuntime) -> Result<(), Fail> {
+    let alloc = rt.alloc();
+    for (words, code, place, want) in [
+        (
             "forces --moments 3",
             WordCode::A6,
             2,
@@ -279,24 +317,6 @@ fn refused_words(rt: HostRuntime) -> Result<(), Fail> {
             WordCode::A7,
             5,
             "A7 extra word f",
-        ),
-        (
-            "forces --eps 0 --none",
-            WordCode::A6,
-            2,
-            "A6 bad value 0 for --eps",
-        ),
-        (
-            "forces --none --eps 0",
-            WordCode::A3,
-            1,
-            "A3 unknown option --none",
-        ),
-        (
-            "forces --eps 1 --none 2 --eps 1",
-            WordCode::A3,
-            3,
-            "A3 unknown option --none",
         ),
     ] {
         let words = list(alloc, words)?;
