@@ -7,13 +7,21 @@ ghost use Rattle.branch_merge.specs.Merged.{AreLight};
 use crate::listed::gathered;
 use crate::{Listed, Top};
 use hot_model::limits::{MAX_ALL_MASS, MAX_RANKS};
-use hot_model::{CellRec, RecList, body_of, covers};
+use hot_model::{Body, CellRec, RecList, body_of, covers};
 use moments::{add, empty, of_body};
 use morton_key::is_cell;
 use std::alloc::{AllocError, Global};
 
 /// A cell by its key, and the places and masses of its bodies.
 pub type Cell<'a> = (u64, &'a [(u32, u32, u32, u32)]);
+
+/// Whether a cell contains a body.
+fn is_inside(cell: u64, b: &Body) -> bool
+    requires cell { keys.IsCell cell }
+    ensures value { result ≡ keys.contains cell b.now }
+{
+    covers(cell, b.key)
+}
 
 /// The record of a cell over bodies, if they are its own and not too heavy.
 fn record_of(cell: &Cell<'_>) -> Option<CellRec> {
@@ -24,7 +32,7 @@ fn record_of(cell: &Cell<'_>) -> Option<CellRec> {
     let mut rec = empty(key);
     for (x, y, z, mass) in bodies {
         let b = body_of(*x, *y, *z, *mass, 0)?;
-        if !covers(key, b.key) {
+        if !is_inside(key, &b) {
             return None;
         }
         let one = of_body(key, &b);

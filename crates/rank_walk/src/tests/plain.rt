@@ -58,6 +58,7 @@ fn record_of(rt: &impl Abort, cell: u64, bodies: &[Body]) -> CellRec {
             let one = of_body(cell, b);
             assert!(rt; rec.count < 1000 && one.count < 1000);
             assert!(rt; rec.mass < 1 << 39 && one.mass < 1 << 39);
+            assert!(rt; covers(rec.key, one.key));
             add(&mut rec, &one);
         }
     }
