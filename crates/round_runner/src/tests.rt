@@ -13,10 +13,10 @@ use std::test::Fail;
 use std::thread::join;
 
 /// A branches letter without items.
-const NO_BRANCHES: [u8; 6] = [1, 1, 0, 0, 0, 0];
+const NO_BRANCHES: [u8; 6] = [2, 1, 0, 0, 0, 0];
 
 /// A letter that asks for one cell, of this key.
-const ONE_ASK: [u8; 14] = [1, 2, 1, 0, 0, 0, 4, 0, 0, 0, 0, 0, 0, 2];
+const ONE_ASK: [u8; 14] = [2, 2, 1, 0, 0, 0, 4, 0, 0, 0, 0, 0, 0, 2];
 
 const ASKED: u64 = 0x0200_0000_0000_0004;
 
