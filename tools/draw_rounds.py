@@ -38,7 +38,7 @@ SHELLS = 14  # of the clustered file: body k is 2^(k mod 14) times closer to the
 PROMPT_ROUNDS = 44
 
 # The parts of letters, in bytes (docs/FORMATS.md)
-HEADER, RECORD, ASK, ANSWER, BODY = 6, 68, 8, 13, 20
+HEADER, RECORD, ASK, ANSWER, BODY = 6, 164, 8, 13, 20
 
 
 def spread():
@@ -99,7 +99,7 @@ def bytes_sent(needs, needed, letters):
 def measure(program, places):
     data = file_of(places)
     found = bodies(data)
-    results = Walk(found, EPS, RATIO, LEAF).results()
+    results = Walk(found, EPS, RATIO, LEAF, 1).results()
     rows = []
     for ranks in RANKS:
         needs = Needs(Split(found, ranks), results, LEAF)
