@@ -265,7 +265,7 @@ count_mass (x ∷ xs) h =
     let b = All-head IsBody x xs h in
     omega (arith, b.weighs, count_mass xs (All-tail IsBody x xs h), sum_by-cons mass_of_body x xs)
 
--- where bodies together have a mass of at least 1, there is at least one
+-- where such bodies weigh at least 1 together, there is at least one
 pub mass_count : (xs : List BodyValue) → All IsBody xs → 1 ≤ mass_of xs → 1 ≤ length xs
 mass_count [] h m = absurd (omega (arith, m))
 mass_count (x ∷ xs) h m = omega arith
@@ -297,7 +297,7 @@ list-facts c xs i all light x y z = record {
   yz_in = second-of (corner c).y (corner c).z (extent c) (λ b. b.y) (λ b. b.z) xs y z;
 }
 
--- so is a cell's record over bodies in the cube, where the cell's mass is within the limit
+-- so is a cell's record over bodies with a mass in the cube, where its own is within the limit
 pub inside-facts : (c : ℕ) (bodies : List BodyValue) → IsCell c → All IsBody bodies → mass_of (inside bodies c) ≤ max_all_mass → IsCellRecord (cell_record bodies c)
 inside-facts c bodies i all light =
     list-facts c (inside bodies c) i (All-filter (contains c) IsBody bodies all) light

@@ -280,7 +280,7 @@ inside_piece w q c h = over w.bodies (λ b m e. rank_in_own w q c b h (inside_ha
         by_tests false true a b r = absurd (let z : eqb (rank_of w x) q ≡ true = eq-eqb _ _ (f x (head_has x xs) b) in let y : true ≡ false = sym z ∙ a in cc)
         by_tests false false a b r = rw (a, b, r) refl
 
--- the record of such a cell over the piece is that over all bodies
+-- a cell whose bodies are all of a rank has one record over its piece and over all bodies
 pub record_piece : (w : World) (q c : ℕ) → IsOfRank w q c → cell_record (piece w q) c ≡ cell_record w.bodies c
 record_piece w q c h = ap (record_of c) (inside_piece w q c h)
 

@@ -274,7 +274,7 @@ unfolding pull_along
 far-along a b m r2 h k =
     rw nat_abs-toward (near-pull m (apart a b) r2 (root (r2 * 2 ^ 20)) h (root-above r2 (apart a b) k))
 
--- from a softened squared distance of 2^16 on a pull by m is at most m * 2^24 along each axis
+-- from a softened squared distance of 2^16 on a pull by m is at most m * 2^24 in size
 pub far-pull-small : (eps : ℕ) (p c : Point) (m : ℕ) → 2 ^ 16 ≤ soft2 eps p c → IsSmall (m * 2 ^ 24) (pull eps p c m)
 unfolding pull
 far-pull-small eps p c m h = record {
@@ -348,17 +348,17 @@ squared-small m c h =
     let d : m * (extent c * extent c) ≤ 2 ^ 40 * (2 ^ 29 * 2 ^ 29) = mul-le m (extent c * extent c) (2 ^ 40) (2 ^ 29 * 2 ^ 29) h b in
     omega (arith, d)
 
--- the sums about the centre of a record with bodies are at most 2^98
+-- the sums about the centre of a record with bodies are at most 2^98 in size
 pub spread-fits : (c : CellValue) → IsCellRecord c → 0 < c.count → AreSmall (2 ^ 98) (spread c)
 spread-fits c f h = are-small (most_spread c.mass (extent c.key)) (2 ^ 98) (spread c) (squared-small c.mass c.key f.light) (record-spread c f (some-mass c f h))
 
--- their traceless form is at most 2^100
+-- their traceless form is at most 2^100 in size
 pub tensor-fits : (c : CellValue) → IsCellRecord c → 0 < c.count → AreSmall (2 ^ 100) (traceless (spread c))
 tensor-fits c f h =
     let a = squared-small c.mass c.key f.light in
     are-small (most_traceless c.mass (extent c.key)) (2 ^ 100) (traceless (spread c)) (omega (arith, a)) (tensor-small c f (some-mass c f h))
 
--- the quadrupole is at most 2^84, from r2 = the squared extent on
+-- the quadrupole is at most 2^84 in size, from r2 = the squared extent on
 pub quadrupole-fits : (c : CellValue) (r2 : ℕ) → IsCellRecord c → 0 < c.count → extent c.key * extent c.key ≤ r2 → AreSmall (2 ^ 84) (quadrupole r2 c)
 quadrupole-fits c r2 f h k = are-small (most_scaled c.mass) (2 ^ 84) (quadrupole r2 c) (omega (arith, f.light)) (quadrupole-small c r2 f (some-mass c f h) k)
 
@@ -388,6 +388,6 @@ quad-small eps p c f h =
       | inr near ↦ rw (quad-near eps p c near) (record { x = omega arith; y = omega arith; z = omega arith })
     ]
 
--- of a record with bodies both pulls together are at most m * 2^40, with a softening from 1 on
+-- of a record with bodies both pulls together are at most m * 2^40, for a softening from 1 on
 pub pair-fits : (eps : ℕ) (p : Point) (c : CellValue) → 1 ≤ eps → IsCellRecord c → 0 < c.count → IsSmall (c.mass * 2 ^ 40) (plus (pull eps p (centre c) c.mass) (quad eps p c))
 pair-fits eps p c e f h = pair-small eps p c e f (some-mass c f h)
