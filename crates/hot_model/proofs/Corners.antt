@@ -95,12 +95,14 @@ x_within c b i m e =
     let k : bits_along (level c) c 2 ≡ high (level c) b.x = rw (key_of_cell c b i e) at (bits_x (level c) b.x b.y b.z h m) in
     rw k (in_part (side c) b.x (pow_pos (29 - level c)))
 
+-- the same along y
 pub y_within : (c : ℕ) (b : BodyValue) → IsCell c → b.y < 2 ^ 29 → contains c b ≡ true → IsWithin (corner c).y (extent c) b.y
 y_within c b i m e =
     let h : level c ≤ 29 = omega (arith, level-le c i) in
     let k : bits_along (level c) c 1 ≡ high (level c) b.y = rw (key_of_cell c b i e) at (bits_y (level c) b.x b.y b.z h m) in
     rw k (in_part (side c) b.y (pow_pos (29 - level c)))
 
+-- the same along z
 pub z_within : (c : ℕ) (b : BodyValue) → IsCell c → b.z < 2 ^ 29 → contains c b ≡ true → IsWithin (corner c).z (extent c) b.z
 z_within c b i m e =
     let h : level c ≤ 29 = omega (arith, level-le c i) in
@@ -120,6 +122,7 @@ bits-front l (suc n) k axis =
     let v : k / (8 * 8 ^ n) ≡ k / 8 / 8 ^ n = sym (div-div-eq-div-mul k 8 (8 ^ n)) in
     rw (e, p, q, v) (sym (div-div-eq-div-mul (2 * bits_along (l + n) (k / 8) axis + bit k axis) 2 (2 ^ n)) ∙ rw u (bits-front l n (k / 8) axis))
 
+-- one bit of each of the last l digits makes a number below 2^l
 pub bits-small : (l k axis : ℕ) → bits_along l k axis < 2 ^ l
 unfolding bits_along
 bits-small zero k axis = omega arith
@@ -179,6 +182,7 @@ wider-offsets m k l u v w e f r w' a b c d g =
     let o : m * ((u + w') * (v + w')) ≤ m * (w * w) = mul-le m ((u + w') * (v + w')) m (w * w) (omega arith) n in
     omega (arith, p, q, g, o)
 
+-- the same for the sums of mass times two coordinates
 pub wider-second : (m k l w k' l' w' s t q : ℕ) → IsInside k w k' w' → IsInside l w l' w' → IsFirstSum m k' w' s → IsFirstSum m l' w' t → IsSecondSum m k' l' w' s t q → IsSecondSum m k l w s t q
 wider-second m k l w k' l' w' s t q h g f y z =
     let u = k' - k in
@@ -209,6 +213,7 @@ wider-second m k l w k' l' w' s t q h g f y z =
 pub first-plus : (m n k w s t : ℕ) → IsFirstSum m k w s → IsFirstSum n k w t → IsFirstSum (m + n) k w (s + t)
 first-plus m n k w s t f g = record { low = omega (arith, f.low, g.low); high = omega (arith, f.high, g.high) }
 
+-- the same for the sums of mass times two coordinates
 pub second-plus : (m n k l w s t q s' t' q' : ℕ) → IsSecondSum m k l w s t q → IsSecondSum n k l w s' t' q' → IsSecondSum (m + n) k l w (s + s') (t + t') (q + q')
 second-plus m n k l w s t q s' t' q' f g = record { low = omega (arith, f.low, g.low); high = omega (arith, f.high, g.high) }
 
@@ -235,6 +240,7 @@ second-one m k l w x y h g =
 abbrev pub AreWithin : ℕ → ℕ → (BodyValue → ℕ) → List BodyValue → Type 0
 AreWithin k w f xs = All (λ b. IsWithin k w (f b)) xs
 
+-- of bodies with a coordinate from k to k + w, the sum of mass times it is within its bounds
 pub first-of : (k w : ℕ) (f : BodyValue → ℕ) (xs : List BodyValue) → AreWithin k w f xs → IsFirstSum (mass_of xs) k w (sum_by (λ b. b.mass * f b) xs)
 first-of k w f [] h = record { low = omega arith; high = omega arith }
 first-of k w f (x ∷ xs) h =
@@ -243,6 +249,7 @@ first-of k w f (x ∷ xs) h =
     rw (sum_by-cons mass_of_body x xs, sum_by-cons (λ (b : BodyValue). b.mass * f b) x xs)
     (first-plus x.mass (mass_of xs) k w (x.mass * f x) (sum_by (λ b. b.mass * f b) xs) one rest)
 
+-- the same for the sum of mass times two coordinates
 pub second-of : (k l w : ℕ) (f g : BodyValue → ℕ) (xs : List BodyValue) → AreWithin k w f xs → AreWithin l w g xs → IsSecondSum (mass_of xs) k l w (sum_by (λ b. b.mass * f b) xs) (sum_by (λ b. b.mass * g b) xs) (sum_by (λ b. b.mass * f b * g b) xs)
 second-of k l w f g [] h i = record { low = omega arith; high = omega arith }
 second-of k l w f g (x ∷ xs) h i =
@@ -258,6 +265,7 @@ count_mass (x ∷ xs) h =
     let b = All-head IsBody x xs h in
     omega (arith, b.weighs, count_mass xs (All-tail IsBody x xs h), sum_by-cons mass_of_body x xs)
 
+-- where such bodies weigh at least 1 together, there is at least one
 pub mass_count : (xs : List BodyValue) → All IsBody xs → 1 ≤ mass_of xs → 1 ≤ length xs
 mass_count [] h m = absurd (omega (arith, m))
 mass_count (x ∷ xs) h m = omega arith
@@ -289,6 +297,7 @@ list-facts c xs i all light x y z = record {
   yz_in = second-of (corner c).y (corner c).z (extent c) (λ b. b.y) (λ b. b.z) xs y z;
 }
 
+-- so is a cell's record over bodies with a mass in the cube, where its own is within the limit
 pub inside-facts : (c : ℕ) (bodies : List BodyValue) → IsCell c → All IsBody bodies → mass_of (inside bodies c) ≤ max_all_mass → IsCellRecord (cell_record bodies c)
 inside-facts c bodies i all light =
     list-facts c (inside bodies c) i (All-filter (contains c) IsBody bodies all) light
@@ -329,6 +338,7 @@ both_weigh n m n' m' f g h =
       | inr p ↦ omega (arith, g (omega (arith, p, h)))
     ]
 
+-- the sum of two records of a cell keeps the facts, where its mass is within the limit
 pub facts-plus : (a b : CellValue) → IsCellRecord a → IsCellRecord b → a.key ≡ b.key → a.mass + b.mass ≤ max_all_mass → IsCellRecord (cell_of a.key (a.count + b.count) (a.mass + b.mass) (a.sx + b.sx) (a.sy + b.sy) (a.sz + b.sz) (a.sxx + b.sxx) (a.syy + b.syy) (a.szz + b.szz) (a.sxy + b.sxy) (a.sxz + b.sxz) (a.syz + b.syz))
 facts-plus a b f h e light =
     let g : IsCellRecord (cell_of a.key b.count b.mass b.sx b.sy b.sz b.sxx b.syy b.szz b.sxy b.sxz b.syz) = subst (λ (k : ℕ). IsCellRecord (cell_of k b.count b.mass b.sx b.sy b.sz b.sxx b.syy b.szz b.sxy b.sxz b.syz)) (sym e) h in
@@ -357,12 +367,15 @@ first-in-cube c m axis s i f =
     let o : m * (corner_along c axis + extent c) ≤ m * (2 ^ 29 - 1) = mul-le m (corner_along c axis + extent c) m (2 ^ 29 - 1) (omega arith) (omega (arith, b)) in
     omega (arith, o, f.high)
 
+-- in a record the sum of mass times x is at most the mass times 2^29 - 1
 pub sx-in-cube : (c : CellValue) → IsCellRecord c → c.sx ≤ c.mass * (2 ^ 29 - 1)
 sx-in-cube c f = first-in-cube c.key c.mass 2 c.sx f.cell f.x_in
 
+-- the same along y
 pub sy-in-cube : (c : CellValue) → IsCellRecord c → c.sy ≤ c.mass * (2 ^ 29 - 1)
 sy-in-cube c f = first-in-cube c.key c.mass 1 c.sy f.cell f.y_in
 
+-- the same along z
 pub sz-in-cube : (c : CellValue) → IsCellRecord c → c.sz ≤ c.mass * (2 ^ 29 - 1)
 sz-in-cube c f = first-in-cube c.key c.mass 0 c.sz f.cell f.z_in
 
@@ -370,6 +383,7 @@ sz-in-cube c f = first-in-cube c.key c.mass 0 c.sz f.cell f.z_in
 centre-along : (m k w s : ℕ) → 0 < m → IsFirstSum m k w s → IsWithin k w (s / m)
 centre-along m k w s h f = (le-div k s m h (omega (arith, f.low)), div-le_of_le-mul m f.high)
 
+-- the three quotients by the mass are a place in the cell's box, if the record has bodies
 pub centre-in-box : (c : CellValue) (x y z : ℕ) → IsCellRecord c → x ≡ c.sx / c.mass → y ≡ c.sy / c.mass → z ≡ c.sz / c.mass → 0 < c.count → IsInBox c.key (record { x = x; y = y; z = z })
 centre-in-box c x y z f e g h some =
     let m : 0 < c.mass = omega (arith, some, f.counted) in
@@ -400,21 +414,27 @@ second-below m q h k =
     let o : m * 2 ^ 58 ≤ 2 ^ 40 * 2 ^ 58 = mul-le m (2 ^ 58) (2 ^ 40) (2 ^ 58) h (omega arith) in
     omega (arith, o, k)
 
+-- in a record the sum of mass times x times x is at most 2^98
 pub sxx-in-cube : (c : CellValue) → IsCellRecord c → c.sxx ≤ 2 ^ 98
 sxx-in-cube c f = second-below c.mass c.sxx f.light (second-in-cube c.mass (corner c.key).x (corner c.key).x (extent c.key) c.sx c.sx c.sxx (box_in_cube c.key 2 f.cell) (box_in_cube c.key 2 f.cell) f.x_in f.x_in f.xx_in)
 
+-- the same for y times y
 pub syy-in-cube : (c : CellValue) → IsCellRecord c → c.syy ≤ 2 ^ 98
 syy-in-cube c f = second-below c.mass c.syy f.light (second-in-cube c.mass (corner c.key).y (corner c.key).y (extent c.key) c.sy c.sy c.syy (box_in_cube c.key 1 f.cell) (box_in_cube c.key 1 f.cell) f.y_in f.y_in f.yy_in)
 
+-- the same for z times z
 pub szz-in-cube : (c : CellValue) → IsCellRecord c → c.szz ≤ 2 ^ 98
 szz-in-cube c f = second-below c.mass c.szz f.light (second-in-cube c.mass (corner c.key).z (corner c.key).z (extent c.key) c.sz c.sz c.szz (box_in_cube c.key 0 f.cell) (box_in_cube c.key 0 f.cell) f.z_in f.z_in f.zz_in)
 
+-- the same for x times y
 pub sxy-in-cube : (c : CellValue) → IsCellRecord c → c.sxy ≤ 2 ^ 98
 sxy-in-cube c f = second-below c.mass c.sxy f.light (second-in-cube c.mass (corner c.key).x (corner c.key).y (extent c.key) c.sx c.sy c.sxy (box_in_cube c.key 2 f.cell) (box_in_cube c.key 1 f.cell) f.x_in f.y_in f.xy_in)
 
+-- the same for x times z
 pub sxz-in-cube : (c : CellValue) → IsCellRecord c → c.sxz ≤ 2 ^ 98
 sxz-in-cube c f = second-below c.mass c.sxz f.light (second-in-cube c.mass (corner c.key).x (corner c.key).z (extent c.key) c.sx c.sz c.sxz (box_in_cube c.key 2 f.cell) (box_in_cube c.key 0 f.cell) f.x_in f.z_in f.xz_in)
 
+-- the same for y times z
 pub syz-in-cube : (c : CellValue) → IsCellRecord c → c.syz ≤ 2 ^ 98
 syz-in-cube c f = second-below c.mass c.syz f.light (second-in-cube c.mass (corner c.key).y (corner c.key).z (extent c.key) c.sy c.sz c.syz (box_in_cube c.key 1 f.cell) (box_in_cube c.key 0 f.cell) f.y_in f.z_in f.yz_in)
 

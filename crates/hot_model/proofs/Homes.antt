@@ -45,6 +45,7 @@ ascends_same (x ∷ xs) (y ∷ ys) a b f g =
     first_same (inr m) (inl e) = sym e
     first_same (inr m) (inr n) = let i = above_member y ys x b.0 m in let j = above_member x xs y a.0 n in absurd (omega (arith, i, j))
 
+-- two functions that agree on the members of a list make the same list of it
 pub map_same : {X Y : Type 0} (f g : X → Y) (xs : List X) → ((x : X) → Contains xs x → f x ≡ g x) → map f xs ≡ map g xs
 map_same f g [] h = refl
 map_same f g (x ∷ xs) h =
@@ -52,6 +53,7 @@ map_same f g (x ∷ xs) h =
     let r = map_same f g xs (λ y m. h y (tail_has x xs y m)) in
     rw (e, r) refl
 
+-- two tests that agree on the members of a list keep the same of it
 pub filter_same : {X : Type 0} (p q : X → Bool) (xs : List X) → ((x : X) → Contains xs x → p x ≡ q x) → filter p xs ≡ filter q xs
 filter_same p q [] h = refl
 filter_same p q (x ∷ xs) h =
@@ -111,6 +113,7 @@ greatest_over (k ∷ ks) j h =
           (more_of k (greatest ks), refl, (rw (r.1) (let p = more_over k r.0 in omega (arith, p, r.2))))
     ]
 
+-- the greatest of a list is a member
 pub greatest_has : (ks : List ℕ) (m : ℕ) → greatest ks ≡ Some m → Contains ks m
 unfolding greatest
 greatest_has [] m h = absurd (let e : None ≡ Some m = h in cc)
@@ -125,6 +128,7 @@ greatest_has (k ∷ ks) m h = by_rest (greatest ks) refl h (greatest_has ks)
           | inr i ↦ subst (λ (z : ℕ). Contains (k ∷ ks) z) (sym i ∙ s) (tail_has k ks n (ih n e))
         ]
 
+-- every member has one at most as great that is the least
 pub least_under : (ks : List ℕ) (j : ℕ) → Contains ks j → (m : ℕ) × (least ks ≡ Some m) × (m ≤ j)
 unfolding least
 least_under [] j h = absurd (nil_has j h)
@@ -136,6 +140,7 @@ least_under (k ∷ ks) j h =
           (less_of k (least ks), refl, (rw (r.1) (let p = less_under k r.0 in omega (arith, p, r.2))))
     ]
 
+-- the least of a list is a member
 pub least_has : (ks : List ℕ) (m : ℕ) → least ks ≡ Some m → Contains ks m
 unfolding least
 least_has [] m h = absurd (let e : None ≡ Some m = h in cc)
@@ -181,6 +186,7 @@ left_body w q m h =
       | inr l ↦ absurd (let t : ltb m n ≡ false = le-ltb _ _ l in let f : true ≡ false = sym e ∙ t in cc)
     ]
 
+-- a right neighbour is the key of a body of a higher rank
 pub right_body : (w : World) (q m : ℕ) → right_of w q ≡ Some m → (b : BodyValue) × Contains w.bodies b × (q < rank_of w b) × (m ≡ key_of_body b)
 right_body w q m h =
     let r = has_map key_of_body (filter (λ b. ltb q (rank_of w b)) w.bodies) m (least_has (map key_of_body (filter (λ b. ltb q (rank_of w b)) w.bodies)) m h) in
@@ -274,6 +280,7 @@ inside_piece w q c h = over w.bodies (λ b m e. rank_in_own w q c b h (inside_ha
         by_tests false true a b r = absurd (let z : eqb (rank_of w x) q ≡ true = eq-eqb _ _ (f x (head_has x xs) b) in let y : true ≡ false = sym z ∙ a in cc)
         by_tests false false a b r = rw (a, b, r) refl
 
+-- a cell whose bodies are all of a rank has one record over its piece and over all bodies
 pub record_piece : (w : World) (q c : ℕ) → IsOfRank w q c → cell_record (piece w q) c ≡ cell_record w.bodies c
 record_piece w q c h = ap (record_of c) (inside_piece w q c h)
 
@@ -305,6 +312,7 @@ home_branch w q k g i h =
             let y = (home-is-own w q (parent k) g j).1 (has_length (bodies_in w (parent k)) m.0 up, test_own w q (bodies_in w (parent k)) f) in
             absurd (let z : is_home (piece w q) (left_of w q) (right_of w q) (parent k) ≡ false = not_true (is_home (piece w q) (left_of w q) (right_of w q) (parent k)) e in let x : true ≡ false = sym y ∙ z in cc)
 
+-- the branches of a rank are outermost own cells of its piece, in a good world
 pub branch_home : (w : World) (q k : ℕ) → IsGood w → IsBranch w q k → is_home_branch (piece w q) (left_of w q) (right_of w q) k ≡ true
 branch_home w q k g b = by_level b.cell.0 b.cell.1 b.cell.2
   where

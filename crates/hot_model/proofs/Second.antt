@@ -17,16 +17,20 @@ nat_abs-neg : (n : ℕ) → nat_abs (neg_ℤ (pos n)) ≡ n
 nat_abs-neg zero = refl
 nat_abs-neg (suc n) = refl
 
+-- a quotient without its fraction has the quotient of the sizes as its size
 pub trunc-size : (a : ℤ) (n : ℕ) → nat_abs (trunc a n) ≡ nat_abs a / n
 trunc-size (pos a) n = refl
 trunc-size (negsuc a) n = nat_abs-neg (suc a / n)
 
+-- a number of at most m * n in size, divided by n, is at most m in size
 pub trunc-small : (a : ℤ) (n m : ℕ) → nat_abs a ≤ m * n → nat_abs (trunc a n) ≤ m
 trunc-small a n m h = rw trunc-size (div-le_of_le-mul n (omega (arith, h)))
 
+-- a product is at most the product of both bounds in size
 pub abs-times : (a b : ℤ) (m n : ℕ) → nat_abs a ≤ m → nat_abs b ≤ n → nat_abs (a *ℤ b) ≤ m * n
 abs-times a b m n h k = rw (unsigned_abs-mul a b) (mul-le (nat_abs a) (nat_abs b) m n h k)
 
+-- a difference is at most the sum of both bounds in size
 pub abs-minus : (a b : ℤ) (m n : ℕ) → nat_abs a ≤ m → nat_abs b ≤ n → nat_abs (a -ℤ b) ≤ m + n
 abs-minus a b m n h k = omega (arith, ints, h, k)
 
@@ -63,6 +67,7 @@ off-small m w c d e f some ce ec df ew fw =
 above-corner : (m k s : ℕ) → 0 < m → m * k ≤ s → k ≤ s / m
 above-corner m k s h l = le-div k s m h (omega (arith, l))
 
+-- a sum of mass times two offsets from the centre is at most m * w^2 in size
 pub spread-small : (m k l w s t q : ℕ) → 0 < m → IsFirstSum m k w s → IsFirstSum m l w t → IsSecondSum m k l w s t q → nat_abs (spread_along m (s / m) (t / m) s t q) ≤ m * (w * w)
 unfolding spread_along
 spread-small m k l w s t q h f g z =
@@ -117,6 +122,7 @@ on-diagonal a b c t n e h k l = rw (three-times a, e) (omega (arith, ints, h, k,
 beside : (a : ℤ) (n : ℕ) → nat_abs a ≤ n → nat_abs (pos 3 *ℤ a) ≤ 4 * n
 beside a n h = rw (three-times a) (omega (arith, ints, h))
 
+-- the traceless form of numbers of at most b is at most 4 * b
 pub traceless-small : (p : Products) (b : ℕ) → AreSmall b p → AreSmall (4 * b) (traceless p)
 unfolding traceless diagonal
 traceless-small p b h = record {
@@ -135,6 +141,7 @@ scale-small m w r2 t h k =
     let b : m * (w * w) ≤ m * r2 = mul-le m (w * w) m r2 (omega arith) h in
     trunc-small (t *ℤ pos (2 ^ 20)) r2 (most_scaled m) (omega (arith, a, b))
 
+-- numbers within the traceless bound, scaled, are within theirs, where w^2 is at most r2
 pub scaled-small : (m w r2 : ℕ) (t : Products) → w * w ≤ r2 → AreSmall (4 * (m * (w * w))) t → AreSmall (most_scaled m) (scaled r2 t)
 unfolding scaled
 scaled-small m w r2 t h k = record {
@@ -146,10 +153,12 @@ scaled-small m w r2 t h k = record {
   yz = scale-small m w r2 t.yz h k.yz;
 }
 
+-- a component of the direction is within its bound, where s is 2^10 times the difference or more
 pub heading-small : (p c s : ℕ) → 1024 * apart p c ≤ s → nat_abs (heading_along p c s) ≤ most_heading
 unfolding heading_along
 heading-small p c s h = rw nat_abs-toward (div-le_of_le-mul s (omega (arith, h)))
 
+-- three numbers of at most m times a vector of at most l make at most 3 * m * l in size
 pub dot-small : (a b c : ℤ) (n : Vector) (m l : ℕ) → nat_abs a ≤ m → nat_abs b ≤ m → nat_abs c ≤ m → IsSmall l n → nat_abs (dot3 a b c n) ≤ 3 * (m * l)
 unfolding dot3
 dot-small a b c n m l h i j k =
@@ -160,6 +169,7 @@ dot-small a b c n m l h i j k =
     let t = nat_abs-plus-le (a *ℤ n.x +ℤ b *ℤ n.y) (c *ℤ n.z) (m * l + m * l) (m * l) s z in
     omega (arith, t)
 
+-- a quadrupole and a direction within their bounds turn to a vector within its own
 pub times-small : (q : Products) (n : Vector) (m : ℕ) → AreSmall (most_scaled m) q → IsSmall most_heading n → IsSmall (most_turned m) (times q n)
 unfolding times
 times-small q n m h k = record {
@@ -168,9 +178,11 @@ times-small q n m h k = record {
   z = (let d = dot-small q.xz q.yz q.zz n (most_scaled m) most_heading h.xz h.yz h.zz k in omega (arith, d));
 }
 
+-- its product with the direction is within its bound
 pub turned-dot-small : (t n : Vector) (m : ℕ) → IsSmall (most_turned m) t → IsSmall most_heading n → nat_abs (dot3 t.x t.y t.z n) ≤ most_dot m
 turned-dot-small t n m h k = let d = dot-small t.x t.y t.z n (most_turned m) most_heading h.x h.y h.z k in omega (arith, d)
 
+-- its part along the direction is within its bound
 pub part-small : (t n : Vector) (m : ℕ) → IsSmall (most_turned m) t → IsSmall most_heading n → nat_abs (part_along t n) ≤ most_part m
 unfolding part_along
 part-small t n m h k =
@@ -184,6 +196,7 @@ five-small g n m h k =
     let b = abs-times (pos 5 *ℤ g) n (5 * most_part m) most_heading a k in
     trunc-small (pos 5 *ℤ g *ℤ n) (2 ^ 21) (90 * m * 2 ^ 40) (omega (arith, b))
 
+-- a component of the pull of second moments is within its bound, from r2 = 2^16 on
 pub bend-small : (r2 m : ℕ) (g n t : ℤ) → 2 ^ 16 ≤ r2 → nat_abs g ≤ most_part m → nat_abs n ≤ most_heading → nat_abs t ≤ most_turned m → nat_abs (bent_along r2 g n t) ≤ most_quad m
 unfolding bent_along
 bend-small r2 m g n t h i j k =
@@ -192,6 +205,7 @@ bend-small r2 m g n t h i j k =
     let c : most_quad m * 2 ^ 16 ≤ most_quad m * r2 = mul-le (most_quad m) (2 ^ 16) (most_quad m) r2 (omega arith) h in
     trunc-small (trunc (pos 5 *ℤ g *ℤ n) (2 ^ 21) -ℤ t) r2 (most_quad m) (omega (arith, b, c))
 
+-- the same for all three components
 pub bent-small : (r2 m : ℕ) (n t : Vector) → 2 ^ 16 ≤ r2 → IsSmall (most_turned m) t → IsSmall most_heading n → IsSmall (most_quad m) (bent r2 n t)
 unfolding bent
 bent-small r2 m n t h i j =
@@ -214,12 +228,15 @@ far-off c d2 r2 i h k =
 pub near-x : (p c : Point) (r2 : ℕ) → distance2 p c ≤ r2 → 1024 * apart p.x c.x ≤ root (r2 * 2 ^ 20)
 near-x p c r2 h = root-above r2 (apart p.x c.x) (omega (arith, h, distance2-is p c))
 
+-- the same along y
 pub near-y : (p c : Point) (r2 : ℕ) → distance2 p c ≤ r2 → 1024 * apart p.y c.y ≤ root (r2 * 2 ^ 20)
 near-y p c r2 h = root-above r2 (apart p.y c.y) (omega (arith, h, distance2-is p c))
 
+-- the same along z
 pub near-z : (p c : Point) (r2 : ℕ) → distance2 p c ≤ r2 → 1024 * apart p.z c.z ≤ root (r2 * 2 ^ 20)
 near-z p c r2 h = root-above r2 (apart p.z c.z) (omega (arith, h, distance2-is p c))
 
+-- the direction by the scaled root of at least the squared distance is within its bound
 pub direction-small : (p c : Point) (r2 : ℕ) → distance2 p c ≤ r2 → IsSmall most_heading (heading (root (r2 * 2 ^ 20)) p c)
 unfolding heading
 direction-small p c r2 h = record {
@@ -236,6 +253,7 @@ soft-above eps p c = rw soft2-is (omega arith)
 pub tensor-small : (c : CellValue) → IsCellRecord c → 0 < c.mass → AreSmall (4 * (c.mass * (extent c.key * extent c.key))) (traceless (spread c))
 tensor-small c f h = traceless-small (spread c) (c.mass * (extent c.key * extent c.key)) (record-spread c f h)
 
+-- the quadrupole of a record with mass is within its bound, from r2 = the squared extent on
 pub quadrupole-small : (c : CellValue) (r2 : ℕ) → IsCellRecord c → 0 < c.mass → extent c.key * extent c.key ≤ r2 → AreSmall (most_scaled c.mass) (quadrupole r2 c)
 quadrupole-small c r2 f h k = scaled-small c.mass (extent c.key) r2 (traceless (spread c)) k (tensor-small c f h)
 
@@ -256,6 +274,7 @@ unfolding pull_along
 far-along a b m r2 h k =
     rw nat_abs-toward (near-pull m (apart a b) r2 (root (r2 * 2 ^ 20)) h (root-above r2 (apart a b) k))
 
+-- from a softened squared distance of 2^16 on a pull by m is at most m * 2^24 in size
 pub far-pull-small : (eps : ℕ) (p c : Point) (m : ℕ) → 2 ^ 16 ≤ soft2 eps p c → IsSmall (m * 2 ^ 24) (pull eps p c m)
 unfolding pull
 far-pull-small eps p c m h = record {
@@ -305,9 +324,11 @@ are-small a b p h k = record {
   yz = omega (arith, h, k.yz);
 }
 
+-- the same for a vector
 pub is-small : (a b : ℕ) (v : Vector) → a ≤ b → IsSmall a v → IsSmall b v
 is-small a b v h k = record { x = omega (arith, h, k.x); y = omega (arith, h, k.y); z = omega (arith, h, k.z) }
 
+-- numbers for each two axes that agree in each are one
 pub same_products : (p q : Products) → p.xx ≡ q.xx → p.yy ≡ q.yy → p.zz ≡ q.zz → p.xy ≡ q.xy → p.xz ≡ q.xz → p.yz ≡ q.yz → p ≡ q
 same_products p q a b c d e f = same_six p.xx q.xx p.yy q.yy p.zz q.zz p.xy q.xy p.xz q.xz p.yz q.yz a b c d e f
   where
@@ -327,17 +348,21 @@ squared-small m c h =
     let d : m * (extent c * extent c) ≤ 2 ^ 40 * (2 ^ 29 * 2 ^ 29) = mul-le m (extent c * extent c) (2 ^ 40) (2 ^ 29 * 2 ^ 29) h b in
     omega (arith, d)
 
+-- the sums about the centre of a record with bodies are at most 2^98 in size
 pub spread-fits : (c : CellValue) → IsCellRecord c → 0 < c.count → AreSmall (2 ^ 98) (spread c)
 spread-fits c f h = are-small (most_spread c.mass (extent c.key)) (2 ^ 98) (spread c) (squared-small c.mass c.key f.light) (record-spread c f (some-mass c f h))
 
+-- their traceless form is at most 2^100 in size
 pub tensor-fits : (c : CellValue) → IsCellRecord c → 0 < c.count → AreSmall (2 ^ 100) (traceless (spread c))
 tensor-fits c f h =
     let a = squared-small c.mass c.key f.light in
     are-small (most_traceless c.mass (extent c.key)) (2 ^ 100) (traceless (spread c)) (omega (arith, a)) (tensor-small c f (some-mass c f h))
 
+-- the quadrupole is at most 2^84 in size, from r2 = the squared extent on
 pub quadrupole-fits : (c : CellValue) (r2 : ℕ) → IsCellRecord c → 0 < c.count → extent c.key * extent c.key ≤ r2 → AreSmall (2 ^ 84) (quadrupole r2 c)
 quadrupole-fits c r2 f h k = are-small (most_scaled c.mass) (2 ^ 84) (quadrupole r2 c) (omega (arith, f.light)) (quadrupole-small c r2 f (some-mass c f h) k)
 
+-- the vector that it turns a direction within its bound to is at most 2^84 too
 pub turned-fits : (c : CellValue) (r2 : ℕ) (n : Vector) → IsCellRecord c → 0 < c.count → extent c.key * extent c.key ≤ r2 → IsSmall most_heading n → IsSmall (2 ^ 84) (times (quadrupole r2 c) n)
 turned-fits c r2 n f h k i =
     is-small (most_turned c.mass) (2 ^ 84) (times (quadrupole r2 c) n) (omega (arith, f.light))
@@ -348,10 +373,12 @@ pub quad-near : (eps : ℕ) (p : Point) (c : CellValue) → distance2 p (centre 
 unfolding quad
 quad-near eps p c h = let t : ltb (square (side c.key)) (distance2 p (centre c)) ≡ false = le-ltb _ _ h in rw t refl
 
+-- beyond the cell's side it is that by the softened distance and the direction to the centre
 pub quad-far : (eps : ℕ) (p : Point) (c : CellValue) → square (side c.key) < distance2 p (centre c) → quad eps p c ≡ quad_over (soft2 eps p (centre c)) (toward_centre eps p c) c
 unfolding quad
 quad-far eps p c h = let t : ltb (square (side c.key)) (distance2 p (centre c)) ≡ true = lt-ltb _ _ h in rw t refl
 
+-- the pull of the second moments of a record with bodies is within its bound
 pub quad-small : (eps : ℕ) (p : Point) (c : CellValue) → IsCellRecord c → 0 < c.count → IsSmall (most_quad c.mass) (quad eps p c)
 quad-small eps p c f h =
     elim (cases_lt (square (side c.key)) (distance2 p (centre c))) [
@@ -361,5 +388,6 @@ quad-small eps p c f h =
       | inr near ↦ rw (quad-near eps p c near) (record { x = omega arith; y = omega arith; z = omega arith })
     ]
 
+-- of a record with bodies both pulls together are at most m * 2^40, for a softening from 1 on
 pub pair-fits : (eps : ℕ) (p : Point) (c : CellValue) → 1 ≤ eps → IsCellRecord c → 0 < c.count → IsSmall (c.mass * 2 ^ 40) (plus (pull eps p (centre c) c.mass) (quad eps p c))
 pair-fits eps p c e f h = pair-small eps p c e f (some-mass c f h)

@@ -12,6 +12,7 @@ abbrev pub are_spread : List ℕ → ℕ → Bool
 are_spread entries zero = true
 are_spread entries (suc n) = eqb (get_or entries n 0) (spread 8 n) && are_spread entries n
 
+-- so each of them is that of the definition
 pub spread_at : (entries : List ℕ) (n : ℕ) → T (are_spread entries n) → (i : ℕ) → i < n → get_or entries i 0 ≡ spread 8 i
 spread_at entries zero t i h = absurd (omega arith)
 spread_at entries (suc n) t i h =
@@ -109,12 +110,16 @@ key_to-spreads (suc l) x y z h =
     let front = rw above at (key_to-spreads l x y z (omega arith)) in
     omega (arith, pow-succ' 8 l, front, halved l m x, halved l m y, halved l m z)
 
+-- a key is 2^63 and the highest 21 bits of each coordinate set apart, x by 4 and y by 2
 pub key_of_spreads : (x y z : ℕ) → key_to 21 x y z ≡ 2 ^ 63 + 4 * spread 21 (x / 2 ^ 8) + 2 * spread 21 (y / 2 ^ 8) + spread 21 (z / 2 ^ 8)
 key_of_spreads x y z = key_to-spreads 21 x y z (omega arith)
 
+-- seven times 21 bits set apart are below 2^63
 pub spread_fits : (n : ℕ) → 7 * spread 21 n < 2 ^ 63
 spread_fits n = spread-below 21 n
 
+-- of a key made of bits set apart: its value, and that it fits
 pub ruleset on_keys = (key_of_spreads, spread_fits)
 
+-- of 21 bits set apart: their three bytes
 pub ruleset on_bytes = (spread_of_bytes)

@@ -28,12 +28,14 @@ before_orders = record {
   chain = λ a b c h k. grind (arith, nat_tests);
 }
 
+-- a list in order is in order without its first body
 pub in_order_tail : (x : BodyValue) (xs : List BodyValue) → IsInOrder (x ∷ xs) → IsInOrder xs
 in_order_tail x xs h k d low p =
     let e : suc k + 1 ≡ suc (k + 1) = omega arith in
     let q = h (suc k) d (omega arith) (omega (arith, p)) in
     rw e at q
 
+-- what is kept of a list in order is in order
 pub in_order_filter : (p : BodyValue → Bool) (xs : List BodyValue) → IsInOrder xs → IsInOrder (filter p xs)
 in_order_filter p xs h = IsSortedBy-filter before before_orders p xs h
 
@@ -55,9 +57,11 @@ rising_in_order (x ∷ xs) h =
 pub piece_in_order : (w : World) (q : ℕ) → IsGood w → IsInOrder (piece w q)
 piece_in_order w q g = in_order_filter (λ b. eqb (rank_of w b) q) w.bodies g.in_order
 
+-- the bodies of a cell of a good world are in order
 pub inside_in_order : (w : World) (c : ℕ) → IsGood w → IsInOrder (bodies_in w c)
 inside_in_order w c g = in_order_filter (contains c) w.bodies g.in_order
 
+-- a filtered sum is at most the whole one
 pub sum_filter_le : (f : BodyValue → ℕ) (p : BodyValue → Bool) (xs : List BodyValue) → sum_by f (filter p xs) ≤ sum_by f xs
 sum_filter_le f p [] = omega arith
 sum_filter_le f p (x ∷ xs) = elim (p x) as (λ (t : Bool). sum_by f (cond t (x ∷ filter p xs) (filter p xs)) ≤ sum_by f (x ∷ xs)) [
@@ -82,10 +86,12 @@ sum_filter_more f p q h (x ∷ xs) = by_tests (filter p xs) (filter q xs) (sum_f
     by_tests ys zs l false true k = omega (arith, l, sum_by-cons f x zs)
     by_tests ys zs l false false k = l
 
+-- the weight of the bodies below a greater key is no less
 pub weight_rises : (weight : BodyValue → ℕ) (bodies : List BodyValue) (j k : ℕ) → j ≤ k → weight_below weight bodies j ≤ weight_below weight bodies k
 weight_rises weight bodies j k h =
     sum_filter_more weight (λ b. ltb (key_of_body b) j) (λ b. ltb (key_of_body b) k) (λ b e. grind (arith, nat_tests)) bodies
 
+-- the quotient of a greater number is no less
 pub div_rises : (a b k : ℕ) → a ≤ b → a / k ≤ b / k
 div_rises a b zero h = rw (div-zero a, div-zero b) (omega arith)
 div_rises a b (suc k) h = le-div (a / suc k) b (suc k) (omega arith) (omega (arith, div-mul-le_self a (suc k), h))
@@ -95,6 +101,7 @@ times_rises a b k h =
     let e : a + (b - a) ≡ b = omega (arith, h) in
     subst (λ (z : ℕ). a * k ≤ z * k) e (omega arith)
 
+-- a greater key has no lower rank
 pub split_rises : (weight : BodyValue → ℕ) (bodies : List BodyValue) (ranks j k : ℕ) → j ≤ k → split_rank weight bodies ranks j ≤ split_rank weight bodies ranks k
 unfolding split_rank
 split_rises weight bodies ranks j k h =
@@ -103,6 +110,7 @@ split_rises weight bodies ranks j k h =
     let r = div_rises (weight_below (counted weight bodies) bodies j * ranks) (weight_below (counted weight bodies) bodies k * ranks) (sum_by (counted weight bodies) bodies) q in
     omega (arith, r)
 
+-- the rank of a key is below the number of ranks, where there is at least one
 pub split_below : (weight : BodyValue → ℕ) (bodies : List BodyValue) (ranks k : ℕ) → 1 ≤ ranks → split_rank weight bodies ranks k < ranks
 unfolding split_rank
 split_below weight bodies ranks k h = omega (arith, h)

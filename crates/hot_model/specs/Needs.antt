@@ -77,6 +77,7 @@ outer_of w me c = outer_in w me (height c) c
 abbrev pub is_needed : (BodyValue → CellValue → Bool) → World → ℕ → ℕ → Bool
 is_needed opens w q c = list_any (λ b. list_any (eqb c) (asks (opens b) w q)) (piece w q)
 
+-- the cells that some body of rank q asks for, by ascending key
 abbrev pub needed : (BodyValue → CellValue → Bool) → World → ℕ → List ℕ
 needed opens w q = filter (is_needed opens w q) (cells w.bodies)
 

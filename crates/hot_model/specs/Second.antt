@@ -114,24 +114,31 @@ quad eps p c =
 abbrev pub most_spread : ℕ → ℕ → ℕ
 most_spread m w = m * (w * w)
 
+-- the bound of the traceless form
 abbrev pub most_traceless : ℕ → ℕ → ℕ
 most_traceless m w = 4 * (m * (w * w))
 
+-- the bound of the quadrupole by the softened squared distance
 abbrev pub most_scaled : ℕ → ℕ
 most_scaled m = 4 * m * 2 ^ 20
 
+-- the bound of the direction
 abbrev pub most_heading : ℕ
 most_heading = 2 ^ 20
 
+-- the bound of the turned vector
 abbrev pub most_turned : ℕ → ℕ
 most_turned m = 12 * m * 2 ^ 40
 
+-- the bound of its product with the direction
 abbrev pub most_dot : ℕ → ℕ
 most_dot m = 36 * m * 2 ^ 60
 
+-- the bound of its part along the direction
 abbrev pub most_part : ℕ → ℕ
 most_part m = 36 * m * 2 ^ 40
 
+-- the bound of each component of the pull
 abbrev pub most_quad : ℕ → ℕ
 most_quad m = 102 * m * 2 ^ 24
 

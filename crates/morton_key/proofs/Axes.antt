@@ -7,10 +7,12 @@ use Rattle.hot_model.proofs.Digits.{two_pow_three, level-le}
 use Rattle.hot_model.proofs.Corners.{bits-small, x_within, y_within, z_within, box-contains}
 use Rattle.morton_key.specs.Laws as laws
 
+-- of no digits the bits along an axis make 0
 pub bits-none : (k axis : ℕ) → 0 ≡ bits_along 0 k axis
 unfolding bits_along
 bits-none k axis = refl
 
+-- of one digit more the bits are twice those of the digits before it, and its own
 pub bits-more : (n k axis : ℕ) → bits_along (n + 1) k axis ≡ 2 * bits_along n (k / 8) axis + bit k axis
 unfolding bits_along
 bits-more n k axis = rw add-one refl
@@ -23,18 +25,21 @@ bits-next key digits done axis h =
     let p : 8 ^ suc (digits - (done + 1)) ≡ 8 ^ (digits - (done + 1)) * 8 = pow-succ' 8 (digits - (done + 1)) ∙ omega arith in
     rw (s, t, p, two_pow_three (digits - (done + 1)), ← div-div-eq-div-mul key (8 ^ (digits - (done + 1))) 8) (sym (bits-more done (key / 8 ^ (digits - (done + 1))) axis))
 
+-- when all digits are done, none is dropped from the key
 pub bits-all : (key digits axis : ℕ) → bits_along digits (key / 8 ^ (digits - digits)) axis ≡ bits_along digits key axis
 bits-all key digits axis =
     let e : digits - digits ≡ 0 = omega arith in
     let f : key / 8 ^ 0 ≡ key = omega arith in
     rw (e, f) refl
 
+-- the bits of at most 21 digits make a number below 2^21
 pub bits-below : (n k axis : ℕ) → n ≤ 21 → bits_along n k axis < 2 ^ 21
 bits-below n k axis h =
     let two : 0 < 2 = omega arith in
     let p : 2 ^ n ≤ 2 ^ 21 = pow-le-pow_right two h in
     omega (arith, p, bits-small n k axis)
 
+-- of bits along an axis: those of none, of one more and of all, and how large they are
 pub ruleset on_bits = (bits-none, bits-next, bits-all, bits-below, bits-small)
 
 -- the corner by a shift
@@ -51,6 +56,7 @@ corner-shifted c axis d r i e f =
     let x : r * 2 ^ (29 - d) ≡ 2 ^ (29 - level c) * bits_along (level c) c axis = rw (u, f, v) (omega arith) in
     (m ∙ x, rw m (rw s at k))
 
+-- a cell contains exactly the bodies in its box
 pub box_of_a_cell : laws.BoxOfACell
 box_of_a_cell c b i s = (
   λ e. (let x = x_within c b i s.x_in e in

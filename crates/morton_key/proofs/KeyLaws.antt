@@ -15,6 +15,7 @@ use Rattle.morton_key.specs.Ranges.{IsBodyKey, count_below}
 use Rattle.morton_key.specs.Laws as laws
 use Rattle.morton_key.proofs.Numbers.{covered_between, between_covered, first_is, last_is, child_has}
 
+-- a cell covers the body keys from its first to its last
 pub range_of_a_cell : laws.RangeOfACell
 range_of_a_cell c k i b = (
   λ e. (let h = covered_between c k (level c) (level-le c i) (level-has c i) b e in
@@ -43,6 +44,7 @@ in_cell c k i h b e = above_parent c k h ∙ covers_front c k (level c) 21 (leve
 to_cell : (c k : ℕ) → IsCell c → level c < 21 → IsBodyKey k → above c k / 8 ≡ c → covers c k ≡ true
 to_cell c k i h b e = front_covers c k (level c) 21 (level-le c i) (omega arith) (level-has c i) b (sym (above_parent c k h) ∙ e)
 
+-- a body key is in a cell above the last level exactly where it is in one child alone
 pub children_part_a_cell : laws.ChildrenPartACell
 children_part_a_cell c k i h b = (
   λ e. (let f = in_cell c k i h b e in (
@@ -56,9 +58,11 @@ children_part_a_cell c k i h b = (
   λ d. (let t = in_child c k d.0 i h b d.1.0 d.1.1 in to_cell c k i h b (omega (arith, t, d.1.0))),
 )
 
+-- a sum over the bodies of a cell above the last level is the sum over its children
 pub children_share_sums : laws.ChildrenShareSums
 children_share_sums f bodies c i h = children_share f bodies c (level c) (omega arith) (level-has c i)
 
+-- a number has one level at most
 pub one_level_each : laws.OneLevelEach
 one_level_each k l m p q =
     elim (cases_lt l m) [
@@ -78,6 +82,7 @@ below_counts k (x ∷ xs) =
     ]
     ∙ sym (sum_by-cons (λ b. cond (ltb (key_of_body b) k) 1 0) x xs)
 
+-- the bodies of a cell are a range of a list in key order
 pub bodies_stand_together : laws.BodiesStandTogether
 bodies_stand_together bodies c i o =
     let r = inside-is-range c (level c) bodies (level-le c i) (level-has c i) (rising_in_order bodies o) in

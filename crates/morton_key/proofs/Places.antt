@@ -77,5 +77,6 @@ key_of_place k q =
     let top = key_to-high 21 q.0.x q.0.y q.0.z in
     rw (sym q.1.key) (low, top)
 
+-- the body keys are the keys of the places in the cube
 pub body_keys_are_of_places : laws.BodyKeysAreOfPlaces
 body_keys_are_of_places k = (place_of k, key_of_place k)

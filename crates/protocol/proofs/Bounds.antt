@@ -84,6 +84,7 @@ posted_rises f g e (Round ∷ log) = posted_rises f g e log
 test : (Note → Bool) → Note → ℕ
 test f n = flag (f n)
 
+-- in a legal log at most as many letters that pass a test were taken as were posted
 pub taken_posted : (opens : BodyValue → CellValue → Bool) (w : World) (f : Note → Bool) (log : List Entry) → Legal opens w log → in_taken (λ m. flag (f m)) log ≤ in_posted (λ m. flag (f m)) log
 taken_posted opens w f [] h = omega arith
 taken_posted opens w f (Posted l ∷ log) h = (let r = taken_posted opens w f log h.0 in omega arith)
@@ -185,6 +186,7 @@ module _ (opens : BodyValue → CellValue → Bool) (w : World) where
         | inr f ↦ (let z = ask-other q c l f in omega arith)
       ]
 
+  -- in a legal log a rank asks for a cell at most once
   pub asks_once : (log : List Entry) → Legal opens w log → (q c : ℕ) → in_posted (asks_by q c) log ≤ 1
   asks_once [] h q c = omega arith
   asks_once (Posted l ∷ log) h q c = asks_post log l l.content refl h.1.may q c (asks_once log h.0 q c)
@@ -231,6 +233,7 @@ module _ (opens : BodyValue → CellValue → Bool) (w : World) where
         | inr f ↦ (let z = answer-away q c (note_of l) f in omega arith)
       ]
 
+  -- in a legal log a cell is answered to a rank at most once
   pub answers_once : (log : List Entry) → Legal opens w log → (q c : ℕ) → in_posted (answers_to q c) log ≤ 1
   answers_once [] h q c = omega arith
   answers_once (Posted l ∷ log) h q c = answers_post log h.0 l l.content refl h.1.truth.truth h.1.may q c (answers_once log h.0 q c)
@@ -327,6 +330,7 @@ module _ (opens : BodyValue → CellValue → Bool) (w : World) where
   unfolding answers_all double
   answers_few log h = sum_rises (λ q. sum_by (λ c. in_posted (answers_to q c) log) (needed opens w q)) (λ q. length (needed opens w q)) (numbers_below w.ranks) (λ q. (let r = sum_most 1 (λ c. in_posted (answers_to q c) log) (needed opens w q) (λ c m. answers_once log h q c) in omega arith))
 
+  -- a legal log has at most one letter for each rank and another, and two for each needed cell
   pub few_letters : (log : List Entry) → Legal opens w log → letters_in log ≤ w.ranks * (w.ranks - 1) + 2 * needs_in_all opens w
   few_letters log h =
       let a = letters_all log h in let b = told_few log h in let c = asks_few log h in let d = answers_few log h in omega arith
@@ -360,10 +364,12 @@ module _ (opens : BodyValue → CellValue → Bool) (w : World) where
       by_numbers : (r x k n l : ℕ) → l ≤ r * x + 2 * n → n ≤ x * k → l + 1 ≤ x * (r + 2 * k) + 1
       by_numbers r x k n l a b = let c : x * (r + 2 * k) ≡ r * x + 2 * (x * k) = grind arith in omega (arith, a, b, c)
 
+  -- a legal log of a good world has at most as many rounds as the bound
   pub few_rounds : IsGood w → (log : List Entry) → Legal opens w log → rounds_in log ≤ round_bound opens w
   few_rounds g log h =
       let a = paced_log log h in let b = taken_letters log h in let c = letters_bound g log h in let f = flag-le (is_over log) in omega arith
 
+  -- where all holds together the rounds are at most the letters, and below the bound
   pub joint_rounds : (ss : List Seat) (d : Desk) → Joint opens w ss d → (rounds_in d.log ≤ letters_in d.log) × (rounds_in d.log < round_bound opens w)
   joint_rounds ss d j =
       let a = j.paced in let b = taken_letters d.log j.legal in let c = letters_bound j.good d.log j.legal in (omega arith, omega arith)

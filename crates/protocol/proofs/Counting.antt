@@ -37,6 +37,7 @@ both false b e = absurd (true≢false (sym e))
 joined : (a b : Bool) → a ≡ true → b ≡ true → (a && b) ≡ true
 joined a b e f = subst (λ (x : Bool). (x && b) ≡ true) (sym e) f
 
+-- the test of two notes is true exactly where they are the same
 pub same_note-decides : (m n : Note) → Decides (same_note m n) (m ≡ n)
 same_note-decides m n = (alike, told)
   where
@@ -86,6 +87,7 @@ pub legal_front : (opens : BodyValue → CellValue → Bool) (w : World) (later 
 legal_front opens w [] front h = h
 legal_front opens w (e ∷ later) front h = legal_front opens w later front h.0
 
+-- in each front of a legal log a note was taken at most as often as it was posted
 pub taken_most : (opens : BodyValue → CellValue → Bool) (w : World) (later front : List Entry) (n : Note) → Legal opens w (later ++ front) → count_by (same_note n) (taken_notes front) ≤ count_by (same_note n) (posted_notes front)
 taken_most opens w later front n h =
     let a = taken_posted opens w (same_note n) front (legal_front opens w later front h) in

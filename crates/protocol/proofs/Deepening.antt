@@ -170,6 +170,7 @@ module _ (opens : BodyValue → CellValue → Bool) (w : World) (ss ts : List Se
   not_taken (Taken x ∷ log) s = absurd s
   not_taken (Round ∷ log) s = refl
 
+  -- where the log is prompt, a step of all ranks makes the letters of the next round
   pub deep_step : Deep ts d (n + 1)
   deep_step = record {
     young = λ q t gt e. absurd (true≢false (sym (before q t gt).2.begun ∙ e));
@@ -183,6 +184,7 @@ module _ (opens : BodyValue → CellValue → Bool) (w : World) (ss ts : List Se
     few = deep.few;
   }
 
+-- a letter that is posted leaves in the boxes letters of the same round
 pub deep_post : (ss : List Seat) (d : Desk) (n q : ℕ) (s t : Seat) (l : LetterValue) → slice_get ss q ≡ Some s → s.outbox ≡ l ∷ t.outbox → t ≡ with_outbox s t.outbox → Deep ss d n → Deep (slice_set ss q t) (posted d l) n
 deep_post ss d n q s t l gs first rest deep =
     let out : AllDeep n (l ∷ t.outbox) = subst (λ (ls : List LetterValue). AllDeep n ls) first (deep.outbox q s gs) in
@@ -217,6 +219,7 @@ deep_time opens w n from to (content.Answers xs) t h =
     let i = some_member xs t.0 in
     let a = h i.0.key (map_has (λ (y : Answered). y.key) xs i.0 i.1) in let b = level-most w from i.0.key (t.1 i.0 i.1).0 in omega arith
 
+-- a letter that is taken leaves in the boxes letters of the same round
 pub deep_take : (opens : BodyValue → CellValue → Bool) (w : World) (ss : List Seat) (d e : Desk) (l : LetterValue) (n : ℕ) (s t : Seat) → Joint opens w ss d → Takes d l e → slice_get ss l.to ≡ Some s → t ≡ with_inbox s (s.inbox ++ l ∷ []) → Deep ss d n → Deep (slice_set ss l.to t) e n
 deep_take opens w ss d e l n s t j tk gs is deep =
     let parts = deep_parts n tk.0 tk.1 l (subst (λ (ls : List LetterValue). AllDeep n ls) tk.2 deep.pending) in
@@ -239,8 +242,10 @@ deep_take opens w ss d e l n s t j tk gs is deep =
       few = subst (λ (x : Desk). rounds_in x.log < prompt_rounds) (sym tk.3) deep.few;
     }
 
+-- a change of the turn leaves in the boxes letters of the same round
 pub deep_turned : (ss : List Seat) (d : Desk) (n : ℕ) (t : Turn) → Deep ss d n → Deep ss (turned d t) n
 deep_turned ss d n t deep = record { young = deep.young; inbox = deep.inbox; outbox = deep.outbox; pending = deep.pending; early = deep.early; few = deep.few }
 
+-- the end of a round in which a letter was taken leaves in the boxes letters of that round
 pub deep_round : (ss : List Seat) (d : Desk) (n : ℕ) → n ≡ rounds_in d.log + 1 → taken_since d.log ≡ true → Deep ss d n → Deep ss (rounded d) n
 deep_round ss d n e t deep = record { young = deep.young; inbox = deep.inbox; outbox = deep.outbox; pending = deep.pending; early = λ z. absurd (true≢false (sym z)); few = let a = deep.early t in omega arith }

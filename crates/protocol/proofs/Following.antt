@@ -113,8 +113,10 @@ module _ (opens : BodyValue → CellValue → Bool) (w : World) where
   asked_told (Taken m ∷ log) h q c p u n o = let r = asked_told log h.0 q c p u n o in omega arith
   asked_told (Round ∷ log) h q c p u n o = asked_told log h.0 q c p u n o
 
+  -- in a front of a legal log a rank that asked for a cell has taken all others' branches
   pub told_before : (later front : List Entry) (q c p : ℕ) → Legal opens w (later ++ front) → p < w.ranks → p ≢ q → 1 ≤ in_posted (asks_by q c) front → 1 ≤ in_taken (one_between kinds.Branches p q) front
   told_before later front q c p h u n o = asked_told front (legal_front opens w later front h) q c p u n o
 
+  -- in a front of a legal log an ask for a cell that was answered to a rank was taken
   pub asked_before : (later front : List Entry) (q c : ℕ) → Legal opens w (later ++ front) → 1 ≤ in_posted (answers_to q c) front → 1 ≤ in_taken (asks_by q c) front
   asked_before later front q c h o = answered_asked front (legal_front opens w later front h) q c o

@@ -59,6 +59,7 @@ posted_notes (Posted l ∷ log) = note_of l ∷ posted_notes log
 posted_notes (Taken n ∷ log) = posted_notes log
 posted_notes (Round ∷ log) = posted_notes log
 
+-- the notes of the letters that were taken
 abbrev pub taken_notes : List Entry → List Note
 taken_notes [] = []
 taken_notes (Posted l ∷ log) = taken_notes log

@@ -64,6 +64,7 @@ pub record Worked (s : Seat) : Type 0 where
   pub inbox : s.inbox ≡ []
   pub waits : HeardAll s → s.done ≡ false → (a : ℕ) × Waits s a
 
+-- each rank is as a step leaves it
 abbrev pub AllWorked : List Seat → Type 0
 AllWorked ss = (q : ℕ) (s : Seat) → slice_get ss q ≡ Some s → Worked s
 
@@ -78,6 +79,7 @@ IsStart (Posted l ∷ past) = ⊥
 IsStart (Taken n ∷ past) = ⊥
 IsStart (Round ∷ past) = Unit {0}
 
+-- each rank is finished
 abbrev pub AllFinished : List Seat → Type 0
 AllFinished ss = (q : ℕ) (s : Seat) → slice_get ss q ≡ Some s → Finished s
 

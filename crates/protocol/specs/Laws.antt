@@ -99,9 +99,11 @@ StepDeepens = (opens : BodyValue → CellValue → Bool) (w : World) (ss ts : Li
 abbrev pub PostDeep : Type 0
 PostDeep = (ss : List Seat) (d : Desk) (n q : ℕ) (s t : Seat) (l : LetterValue) → slice_get ss q ≡ Some s → s.outbox ≡ l ∷ t.outbox → t ≡ with_outbox s t.outbox → Deep ss d n → Deep (slice_set ss q t) (posted d l) n
 
+-- the same of a letter that is taken
 abbrev pub TakeDeep : Type 0
 TakeDeep = (opens : BodyValue → CellValue → Bool) (w : World) (ss : List Seat) (d e : Desk) (l : LetterValue) (n : ℕ) (s t : Seat) → Joint opens w ss d → Takes d l e → slice_get ss l.to ≡ Some s → t ≡ with_inbox s (s.inbox ++ l ∷ []) → Deep ss d n → Deep (slice_set ss l.to t) e n
 
+-- the same of a change of the turn
 abbrev pub TurnDeep : Type 0
 TurnDeep = (ss : List Seat) (d : Desk) (n : ℕ) (t : Turn) → Deep ss d n → Deep ss (turned d t) n
 

@@ -13,6 +13,7 @@ each_of_two P a b pa pb zero x e = let f : Some a ≡ Some x = e in let g : a �
 each_of_two P a b pa pb (suc zero) x e = let f : Some b ≡ Some x = e in let g : b ≡ x = cc in subst P g pb
 each_of_two P a b pa pb (suc (suc q)) x e = let f : None ≡ Some x = e in absurd cc
 
+-- two ranks, each new at its place, are all new
 pub both_new : {V A : Type 0} (a b : RankState V A) (rs : List (RankState V A)) → rs ≡ a ∷ b ∷ [] → IsNew 0 2 (seat_of a) → IsNew 1 2 (seat_of b) → AllNew (seats rs)
 both_new {V} {A} a b rs e m n = subst (λ (xs : List (RankState V A)). AllNew (seats xs)) (sym e) by_place
   where
@@ -21,6 +22,7 @@ both_new {V} {A} a b rs e m n = subst (λ (xs : List (RankState V A)). AllNew (s
     by_place (suc zero) s f = let g : Some (seat_of b) ≡ Some s = f in let h : seat_of b ≡ s = cc in subst (IsNew 1 2) h n
     by_place (suc (suc q)) s f = let g : None ≡ Some s = f in absurd cc
 
+-- two ranks of one visit that stand for a good world of two ranks are together
 pub both_together : {V A : Type 0} (Stands : World → RankState V A → Type 0) (v : V) (w : World) (a b : RankState V A) (rs : List (RankState V A)) → rs ≡ a ∷ b ∷ [] → IsGood w → w.ranks ≡ 2 → Stands w a → Stands w b → visit_of a ≡ v → visit_of b ≡ v → Together Stands v w rs
 both_together {V} {A} Stands v w a b rs e g r sa sb va vb =
     subst (λ (xs : List (RankState V A)). Together Stands v w xs) (sym e)
@@ -31,6 +33,7 @@ each_of_three : {X : Type 0} (P : X → Type 0) (a b c : X) → P a → P b → 
 each_of_three P a b c pa pb pc zero x e = let f : Some a ≡ Some x = e in let g : a ≡ x = cc in subst P g pa
 each_of_three P a b c pa pb pc (suc q) x e = each_of_two P b c pb pc q x e
 
+-- three ranks, each new at its place, are all new
 pub three_new : {V A : Type 0} (a b c : RankState V A) (rs : List (RankState V A)) → rs ≡ a ∷ b ∷ c ∷ [] → IsNew 0 3 (seat_of a) → IsNew 1 3 (seat_of b) → IsNew 2 3 (seat_of c) → AllNew (seats rs)
 three_new {V} {A} a b c rs e m n o = subst (λ (xs : List (RankState V A)). AllNew (seats xs)) (sym e) by_place
   where
@@ -40,6 +43,7 @@ three_new {V} {A} a b c rs e m n o = subst (λ (xs : List (RankState V A)). AllN
     by_place (suc (suc zero)) s f = let g : Some (seat_of c) ≡ Some s = f in let h : seat_of c ≡ s = cc in subst (IsNew 2 3) h o
     by_place (suc (suc (suc q))) s f = let g : None ≡ Some s = f in absurd cc
 
+-- three ranks of one visit that stand for a good world of three ranks are together
 pub three_together : {V A : Type 0} (Stands : World → RankState V A → Type 0) (v : V) (w : World) (a b c : RankState V A) (rs : List (RankState V A)) → rs ≡ a ∷ b ∷ c ∷ [] → IsGood w → w.ranks ≡ 3 → Stands w a → Stands w b → Stands w c → visit_of a ≡ v → visit_of b ≡ v → visit_of c ≡ v → Together Stands v w rs
 three_together {V} {A} Stands v w a b c rs e g r sa sb sc va vb vc =
     subst (λ (xs : List (RankState V A)). Together Stands v w xs) (sym e)

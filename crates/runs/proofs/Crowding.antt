@@ -51,13 +51,16 @@ listed = record {
   counted = counted;
 }
 
+-- the world of five bodies at one point on three ranks is good
 pub crowd_good : IsGood crowd
 crowd_good = good_of cut listed
 
+-- its first rank has the five bodies, and no neighbouring key
 pub here_crowded : IsHere crowd 0 3 five None None 8
 unfolding key_to greatest least
 here_crowded = record { good = crowd_good; bodies_are = refl; ranks_are = refl; leaf_is = refl; left_is = refl; right_is = refl }
 
+-- each other rank has no body, and on its left the key of the point
 pub here_empty : (q : ℕ) → 0 < q → q < 3 → IsHere crowd q 3 [] (Some 9223372036854776263) None 8
 unfolding key_to greatest least
 here_empty zero a b = absurd (omega arith)

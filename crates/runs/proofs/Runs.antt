@@ -33,16 +33,19 @@ seat_at [] q r e = let k : None ≡ Some r = e in cc
 seat_at (x ∷ rs) zero r e = let k : x ≡ r = cc in ap (λ y. Some (seat_of y)) k
 seat_at (x ∷ rs) (suc q) r e = seat_at rs q r e
 
+-- a seat at a place is that of the rank at the place
 pub rank_at : {V A : Type 0} (rs : List (RankState V A)) (q : ℕ) (s : Seat) → slice_get (seats rs) q ≡ Some s → (r : RankState V A) × (slice_get rs q ≡ Some r) × ((seat_of r) ≡ s)
 rank_at [] q s e = absurd (let k : None ≡ Some s = e in cc)
 rank_at (x ∷ rs) zero s e = (x, refl, (let k : Some (seat_of x) ≡ Some s = e in cc))
 rank_at (x ∷ rs) (suc q) s e = rank_at rs q s e
 
+-- after a change of one rank the seats are as before, but for the seat of that rank
 pub seats_set : {V A : Type 0} (rs : List (RankState V A)) (q : ℕ) (r : RankState V A) → seats (slice_set rs q r) ≡ slice_set (seats rs) q (seat_of r)
 seats_set [] q r = refl
 seats_set (x ∷ rs) zero r = refl
 seats_set (x ∷ rs) (suc q) r = ap (λ ss. (seat_of x) ∷ ss) (seats_set rs q r)
 
+-- there are as many seats as ranks
 pub seats_len : {V A : Type 0} (rs : List (RankState V A)) → length (seats rs) ≡ length rs
 seats_len [] = refl
 seats_len (x ∷ rs) = ap suc (seats_len rs)
@@ -53,6 +56,7 @@ numbers_set [] q s t e n = refl
 numbers_set (x ∷ rs) zero s t e n = let k : s ≡ x = cc in ap (λ (m : ℕ). m ∷ numbers rs) (n ∙ ap (λ y. (seat_of y).me) k)
 numbers_set (x ∷ rs) (suc q) s t e n = ap (λ (ms : List ℕ). (seat_of x).me ∷ ms) (numbers_set rs q s t e n)
 
+-- where each rank keeps its number, the list of numbers stays
 pub numbers_step : {V A : Type 0} (rs ts : List (RankState V A)) → length ts ≡ length rs → ((k : ℕ) (d : RankState V A) → k < length rs → (seat_of (slice_index_or ts k d)).me ≡ (seat_of (slice_index_or rs k d)).me)
     → numbers ts ≡ numbers rs
 numbers_step [] [] n h = refl
@@ -79,6 +83,7 @@ placed_by rs us e h q u g =
     let r = rank_of_number rs q (seat_of u).me (subst (λ (ns : List ℕ). slice_get ns q ≡ Some (seat_of u).me) e (number_at us q u g)) in
     sym r.2 ∙ h q r.0 r.1
 
+-- new ranks stand at the places of their numbers
 pub new_placed : {V A : Type 0} (rs : List (RankState V A)) → AllNew (seats rs) → ArePlaced rs
 new_placed rs new q r g = (new q (seat_of r) (seat_at rs q r g)).me
 
@@ -118,6 +123,7 @@ module _ {V A : Type 0} (opens_by : V → BodyValue → CellValue → Bool) (Sta
         let lt = get_within ts q t gt in
         let s = get_some rs q (omega (arith, len)) in (s.0, s.1, stepped q s.0 t s.1 gt)
 
+    -- where each rank steps, and none is refused memory, they run on
     pub running_step : Running opens_by Stands v w ts d 1
     running_step = record {
       together = record {
@@ -131,6 +137,7 @@ module _ {V A : Type 0} (opens_by : V → BodyValue → CellValue → Bool) (Sta
       prompt = j.prompt;
     }
 
+    -- and each rank is as a step leaves it
     pub worked_step : AllWorked (seats ts)
     worked_step = (step_keeps (opens_by v) w (seats rs) (seats ts) d j.joint quiet start seats_same moved).1
 
@@ -165,18 +172,23 @@ module _ {V A : Type 0} (opens_by : V → BodyValue → CellValue → Bool) (Sta
 
   -- a letter is taken
   module _ (v : V) (w : World) (rs : List (RankState V A)) (d e : Desk) (l : LetterValue) (j : Running opens_by Stands v w rs d 1) (tk : Takes d l e) where
+    -- the letter is true
     pub taken_letter : TrueLetter w l
     taken_letter = taken_true (opens_by v) w (seats rs) d e l j.joint tk
 
+    -- its receiver is one of the ranks
     pub taken_within : l.to < length rs
     taken_within = omega (arith, taken_letter.to_in, j.together.ranks)
 
+    -- the log is legal after it was taken
     pub taken_legal : Legal (opens_by v) w e.log
     taken_legal = legal_take (opens_by v) w (seats rs) d e l j.joint tk
 
+    -- the rank at the place of the receiver is the receiver, and may take it
     pub taken_fresh : (r : RankState V A) → slice_get rs l.to ≡ Some r → (l.to ≡ (seat_of r).me) × IsFresh (seat_of r) l
     taken_fresh r gr = (let f = take_keeps (opens_by v) w (seats rs) d e l (seat_of r) j.joint tk (seat_at rs l.to r gr) in (f.1, f.2))
 
+    -- where it was handed to its receiver, they run on
     pub running_take : (ts : List (RankState V A)) (x : Unit {0}) → HandsAt Stands rs l ts (Ok x) → Running opens_by Stands v w ts e 1
     running_take ts x h =
         let s = h.0 in let t = h.1 in
@@ -193,6 +205,7 @@ module _ {V A : Type 0} (opens_by : V → BodyValue → CellValue → Bool) (Sta
               subst (λ (y : Desk). IsPrompt y.log) (sym tk.3) (j.prompt eager));
         }
 
+  -- a change of the turn leaves them running
   pub running_turned : (v : V) (w : World) (rs : List (RankState V A)) (d e : Desk) (t : Turn) → e ≡ turned d t → Running opens_by Stands v w rs d 1 → Running opens_by Stands v w rs e 1
   running_turned v w rs d e t is j = subst (λ x. Running opens_by Stands v w rs x 1) (sym is) (record {
     together = j.together;
@@ -210,6 +223,7 @@ module _ {V A : Type 0} (opens_by : V → BodyValue → CellValue → Bool) (Sta
         let z : in_letters (λ n. flag (f n)) d.pending ≡ 0 = ap (in_letters (λ n. flag (f n))) (all e) in omega arith),
   )
 
+  -- with a letter taken, and if the wire is eager none pending, a round ends and they run on
   pub running_round : (v : V) (w : World) (rs : List (RankState V A)) (d e : Desk) → Running opens_by Stands v w rs d 1 → taken_since d.log ≡ true → (d.eager d.mail ≡ true → d.pending ≡ []) → e ≡ rounded d → Running opens_by Stands v w rs e 0
   running_round v w rs d e j t all is = subst (λ x. Running opens_by Stands v w rs x 0) (sym is) (record {
     together = j.together;
@@ -218,6 +232,7 @@ module _ {V A : Type 0} (opens_by : V → BodyValue → CellValue → Bool) (Sta
     prompt = prompt_more v w rs d j all;
   })
 
+  -- a round after whose posting nothing is pending leaves what the last one leaves
   pub round_last : (v : V) (w : World) (rs : List (RankState V A)) (d e : Desk) → Running opens_by Stands v w rs d 1 → AllWorked (seats rs) → AllQuiet (seats rs) → d.pending ≡ [] → e ≡ rounded d → Over opens_by Stands v w rs e
   round_last v w rs d e j wk qt pe is = subst (λ x. Over opens_by Stands v w rs x) (sym is) (
       let q = quiet_ends (opens_by v) w (seats rs) d j.joint wk qt pe in
@@ -232,24 +247,30 @@ module _ {V A : Type 0} (opens_by : V → BodyValue → CellValue → Bool) (Sta
         few = λ p. (let a = (j.deep p.0).few in omega arith);
       })
 
+  -- the log is legal after a round has ended
   pub legal_round : (v : V) (w : World) (rs : List (RankState V A)) (d e : Desk) → Running opens_by Stands v w rs d 1 → e ≡ rounded d → Legal (opens_by v) w e.log
   legal_round v w rs d e j is = subst (λ (x : Desk). Legal (opens_by v) w x.log) (sym is) (j.joint.legal, tt, j.joint.wet)
 
+  -- where memory was refused, a legal log is what a round leaves
   pub round_err : (v : V) (w : World) (rs : List (RankState V A)) (d : Desk) (r : Result Bool AllocError) → IsErr r → Legal (opens_by v) w d.log → RoundEnds opens_by Stands v w rs d r
   round_err v w rs d (Ok x) e l = let q : false ≡ true = e in absurd (true≢false (sym q))
   round_err v w rs d (Err x) e l = l
 
+  -- a round that was the last one leaves what the last one leaves
   pub ends_last : (v : V) (w : World) (rs : List (RankState V A)) (d : Desk) (b : Bool) → b ≡ true → RoundEnds opens_by Stands v w rs d (Ok b) → Over opens_by Stands v w rs d
   ends_last v w rs d true e h = h
   ends_last v w rs d false e h = absurd (true≢false (sym e))
 
+  -- after a round that was not the last one they run on
   pub ends_more : (v : V) (w : World) (rs : List (RankState V A)) (d : Desk) (b : Bool) → b ≡ false → RoundEnds opens_by Stands v w rs d (Ok b) → Running opens_by Stands v w rs d 0
   ends_more v w rs d true e h = absurd (true≢false e)
   ends_more v w rs d false e h = h
 
+  -- the rounds of ranks that run are at most the letters, and below the bound
   pub room_left : (v : V) (w : World) (rs : List (RankState V A)) (d : Desk) (n : ℕ) → Running opens_by Stands v w rs d n → (rounds_in d.log ≤ letters_in d.log) × (rounds_in d.log < round_bound (opens_by v) w)
   room_left v w rs d n j = rounds_left (opens_by v) w (seats rs) d j.joint
 
+  -- new ranks that are together run, with a wire that was begun
   pub running_new : (v : V) (w : World) (rs : List (RankState V A)) (d : Desk) → Together Stands v w rs → AllNew (seats rs) → IsBegun d → Running opens_by Stands v w rs d 0
   running_new v w rs d t new b =
       let s = start_holds (opens_by v) w (seats rs) d t.good (seats_len rs ∙ t.ranks) new b in
@@ -262,9 +283,11 @@ module _ {V A : Type 0} (opens_by : V → BodyValue → CellValue → Bool) (Sta
 
 -- popping
 module _ {V A : Type 0} (Stands : World → RankState V A → Type 0) where
+  -- to pop from an outbox leaves as many ranks
   pub pops_len : (rs : List (RankState V A)) (q : ℕ) (o : Option LetterValue) (ts : List (RankState V A)) → PopsAt Stands rs q o ts → length ts ≡ length rs
   pops_len rs q o ts p = ap length p.3 ∙ set_len rs q p.1
 
+  -- to pop from an outbox leaves all other ranks as they were
   pub pops_others : (rs : List (RankState V A)) (q : ℕ) (o : Option LetterValue) (ts : List (RankState V A)) → PopsAt Stands rs q o ts → (x : ℕ) → x ≢ q → slice_get ts x ≡ slice_get rs x
   pops_others rs q o ts p x ne = ap (λ us. slice_get us x) p.3 ∙ get-set-other rs q x p.1 ne
 
@@ -272,6 +295,7 @@ module _ {V A : Type 0} (Stands : World → RankState V A → Type 0) where
   popped_number s t None e = ap (λ (y : Seat). y.me) e.1
   popped_number s t (Some l) e = ap (λ (y : Seat). y.me) e.1
 
+  -- to pop from an outbox leaves the numbers of the ranks
   pub pops_numbers : (rs : List (RankState V A)) (q : ℕ) (o : Option LetterValue) (ts : List (RankState V A)) → PopsAt Stands rs q o ts → numbers ts ≡ numbers rs
   pops_numbers rs q o ts p = ap (λ us. numbers us) p.3 ∙ numbers_set rs q p.0 p.1 p.2 (popped_number (seat_of p.0) (seat_of p.1) o p.4.out)
 
@@ -279,6 +303,7 @@ module _ {V A : Type 0} (Stands : World → RankState V A → Type 0) where
   still_worked s t None e wk = subst (λ y. Worked y) (sym e.1) wk
   still_worked s t (Some l) e wk = subst (λ y. Worked y) (sym e.1) (record { begun = wk.begun; inbox = wk.inbox; waits = wk.waits })
 
+  -- to pop from an outbox leaves each rank as a step leaves it, if all were so
   pub pops_worked : (rs : List (RankState V A)) (q : ℕ) (o : Option LetterValue) (ts : List (RankState V A)) → PopsAt Stands rs q o ts → AllWorked (seats rs) → AllWorked (seats ts)
   pops_worked rs q o ts p wk x u g =
       let e : seats ts ≡ slice_set (seats rs) q (seat_of p.1) = ap (λ y. seats y) p.3 ∙ seats_set rs q p.1 in
@@ -288,6 +313,7 @@ module _ {V A : Type 0} (Stands : World → RankState V A → Type 0) where
         | inr y ↦ wk x u y.1
       ]
 
+  -- where none was popped, the outbox is empty
   pub pops_quiet : (rs : List (RankState V A)) (q : ℕ) (ts : List (RankState V A)) → PopsAt Stands rs q None ts → QuietAt (seats ts) q
   pops_quiet rs q ts p s g =
       let e : seats ts ≡ slice_set (seats rs) q (seat_of p.1) = ap (λ y. seats y) p.3 ∙ seats_set rs q p.1 in
@@ -301,6 +327,7 @@ module _ {V A : Type 0} (Stands : World → RankState V A → Type 0) where
   len_at (x ∷ ss) zero s e = let k : x ≡ s = cc in ap (λ (y : Seat). length y.outbox) k
   len_at (x ∷ ss) (suc q) s e = len_at ss q s e
 
+  -- where a letter was popped, the outbox is shorter
   pub pops_smaller : (rs : List (RankState V A)) (q : ℕ) (l : LetterValue) (ts : List (RankState V A)) → PopsAt Stands rs q (Some l) ts → outbox_len (seats ts) q < outbox_len (seats rs) q
   pops_smaller rs q l ts p =
       let gs = seat_at rs q p.0 p.2 in
@@ -346,18 +373,23 @@ quiet_elsewhere rs ts p e h s g = let r = rank_at ts p s g in h s (subst (λ x. 
 pub frame_on : {X : Type 0} (ss : List X) (d : Desk) (ts : List X) (e : Desk) (us : List X) (f : Desk) → Frame ss d ts e → Frame ts e us f → Frame ss d us f
 frame_on ss d ts e us f a b = record { len = b.len ∙ a.len; mail = b.mail ∙ a.mail; eager = b.eager ∙ a.eager; rounds = b.rounds ∙ a.rounds }
 
+-- a letter that is posted keeps the frame, with as many ranks
 pub frame_post : {X : Type 0} (ss : List X) (d : Desk) (l : LetterValue) (ts : List X) (e : Desk) → length ts ≡ length ss → e ≡ posted d l → Frame ss d ts e
 frame_post ss d l ts e n is = record { len = n; mail = ap (λ (x : Desk). x.mail) is; eager = ap (λ (x : Desk). x.eager) is; rounds = ap (λ (x : Desk). rounds_in x.log) is }
 
+-- a wire that stays keeps the frame, with as many ranks
 pub frame_same : {X : Type 0} (ss : List X) (d : Desk) (ts : List X) → length ts ≡ length ss → Frame ss d ts d
 frame_same ss d ts n = record { len = n; mail = refl; eager = refl; rounds = refl }
 
+-- a change of the turn keeps the frame
 pub frame_turned : {X : Type 0} (ss : List X) (d e : Desk) (t : Turn) → e ≡ turned d t → Frame ss d ss e
 frame_turned ss d e t is = record { len = refl; mail = ap (λ (x : Desk). x.mail) is; eager = ap (λ (x : Desk). x.eager) is; rounds = ap (λ (x : Desk). rounds_in x.log) is }
 
+-- a letter that is taken keeps the frame, with as many ranks
 pub frame_take : {X : Type 0} (ss : List X) (d e : Desk) (l : LetterValue) (ts : List X) → length ts ≡ length ss → Takes d l e → Frame ss d ts e
 frame_take ss d e l ts n tk = record { len = n; mail = ap (λ (x : Desk). x.mail) tk.3; eager = ap (λ (x : Desk). x.eager) tk.3; rounds = ap (λ (x : Desk). rounds_in x.log) tk.3 }
 
+-- a wire that is eager now was eager at the start of the frame
 pub eager_back : {X : Type 0} (ss : List X) (d : Desk) (ts : List X) (e : Desk) → Frame ss d ts e → e.eager e.mail ≡ true → d.eager d.mail ≡ true
 eager_back ss d ts e f h = subst (λ m. d.eager m ≡ true) f.mail (subst (λ g. g e.mail ≡ true) f.eager h)
 
@@ -371,29 +403,37 @@ bound_fits opens w g r =
     by_numbers : (x y : ℕ) → x ≤ max_ranks - 1 → y ≤ max_ranks + 2 * ((max_level + 1) * max_bodies) → x * y + 1 ≤ most_rounds
     by_numbers x y a b = let c : x * y ≤ (max_ranks - 1) * (max_ranks + 2 * ((max_level + 1) * max_bodies)) = mul-le-mul a b in omega (arith, c)
 
+-- a number below the most rounds, and one more, fits 64 bits
 pub below_word : (n : ℕ) → n < most_rounds → Fits w64 (n + 1)
 below_word n le = search rules
 
+-- a list of length 0 is empty
 pub nil_of : {X : Type 0} (xs : List X) → length xs ≡ 0 → xs ≡ []
 nil_of [] e = refl
 nil_of (x ∷ xs) e = absurd (omega arith)
 
+-- a list that was written over the front of another one is what is read there
 pub back_in : {X : Type 0} (xs ys : List X) (n : ℕ) → length xs ≡ n → take n (xs ++ drop (length xs) ys) ≡ xs
 back_in xs ys n e = grind (arith, common_steps)
 
+-- on a wire that was begun nothing happened yet
 pub begun_start : (d : Desk) → IsBegun d → IsStart d.log
 begun_start d b = subst (λ (l : List Entry). IsStart l) (sym b.log) tt
 
+-- the mail stays over two stretches in each of which it stays
 pub same_on : (d e f : Desk) → SameMail d e → SameMail e f → SameMail d f
 same_on d e f a b = record { mail = b.mail ∙ a.mail; eager = b.eager ∙ a.eager }
 
+-- while the mail stays, an eager wire stays eager
 pub eager_on : (d e f : Desk) → SameMail d e → SameMail e f → d.eager d.mail ≡ true → f.eager f.mail ≡ true
 eager_on d e f a b h = let s = same_on d e f a b in subst (λ m. f.eager m ≡ true) (sym s.mail) (subst (λ g. g d.mail ≡ true) (sym s.eager) h)
 
 module _ {V A : Type 0} (opens_by : V → BodyValue → CellValue → Bool) (Stands : World → RankState V A → Type 0) where
+  -- equal lists of ranks run alike
   pub as_slice : (v : V) (w : World) (rs ts : List (RankState V A)) (d : Desk) → ts ≡ rs → Running opens_by Stands v w rs d 0 → Running opens_by Stands v w ts d 0
   as_slice v w rs ts d e j = subst (λ us. Running opens_by Stands v w us d 0) (sym e) j
 
+  -- ranks within their limit that run have had fewer rounds than the most
   pub rounds_small : (v : V) (w : World) (rs : List (RankState V A)) (d : Desk) → length rs ≤ max_ranks → Running opens_by Stands v w rs d 0 → rounds_in d.log < most_rounds
   rounds_small v w rs d le j =
       let a = (room_left opens_by Stands v w rs d 0 j).1 in

@@ -4,6 +4,7 @@ use Rattle.hot_model.specs.Values.{BodyValue}
 use Rattle.hot_model.specs.World.{World}
 use Rattle.defer_walk.specs.Listing.{world_of}
 
+-- the body of a row at this point, of mass 1
 abbrev pub at_point : ℕ → BodyValue
 at_point row = record { x = 1280; y = 1280; z = 1280; mass = 1; row = row }
 

@@ -39,6 +39,7 @@ numbers {V} {A} rs = map (λ (r : RankState V A). (seat_of r).me) rs
 abbrev pub AllFed : {V A : Type 0} → List (RankState V A) → Type 0
 AllFed {V} {A} rs = (q : ℕ) (r : RankState V A) → slice_get rs q ≡ Some r → (seat_of r).starved ≡ false
 
+-- some rank was refused memory
 abbrev pub SomeStarved : {V A : Type 0} → List (RankState V A) → Type 0
 SomeStarved {V} {A} rs = (q : ℕ) × (r : RankState V A) × (slice_get rs q ≡ Some r) × ((seat_of r).starved ≡ true)
 
@@ -100,6 +101,7 @@ module _ {V A : Type 0} (Stands : World → RankState V A → Type 0) where
     pub me : (seat_of t).me ≡ (seat_of s).me
     pub ok : OnOk o ((seat_of t) ≡ with_inbox (seat_of s) ((seat_of s).inbox ++ l ∷ []))
 
+  -- the letter was handed to its receiver, and the other ranks are as they were
   abbrev pub HandsAt : List (RankState V A) → LetterValue → List (RankState V A) → Result (Unit {0}) AllocError → Type 0
   HandsAt rs l ts o = (s : RankState V A) × (t : RankState V A) × (slice_get rs l.to ≡ Some s) × (ts ≡ slice_set rs l.to t) × Took s l t o
 
@@ -145,6 +147,7 @@ module _ {V A : Type 0} (t : visits.Ghosts V A) (a : seens.Ghosts A) where
   abbrev pub StepsTo : (old new : RankState V A) → Type 0
   StepsTo old new = Stepped t.opens_by (StandsIn t a) old new
 
+  -- each rank is one that a step may leave of the rank at its place
   abbrev pub AllStep : (rs us : List (RankState V A)) → Type 0
   AllStep rs us = (k : ℕ) (d : RankState V A) → k < length rs → StepsTo (slice_index_or rs k d) (slice_index_or us k d)
 
@@ -156,6 +159,7 @@ module _ {V A : Type 0} (t : visits.Ghosts V A) (a : seens.Ghosts A) where
   abbrev pub AreTogether : List (RankState V A) → Type 0
   AreTogether rs = (v : V) × (w : World) × Together (StandsIn t a) v w rs
 
+  -- this is so for each visit and good world for which the ranks are together
   abbrev pub WhereTogether : List (RankState V A) → (V → World → Type 0) → Type 0
   WhereTogether rs P = (v : V) (w : World) → Together (StandsIn t a) v w rs → P v w
 
@@ -163,12 +167,15 @@ module _ {V A : Type 0} (t : visits.Ghosts V A) (a : seens.Ghosts A) where
   abbrev pub StayTogether : (rs us : List (RankState V A)) → Result ℕ AllocError → Type 0
   StayTogether rs us r = WhereTogether rs (λ v w. OnOk r (Together (StandsIn t a) v w us))
 
+  -- in each such world the log is legal
   abbrev pub IsLegalFor : List (RankState V A) → List Entry → Type 0
   IsLegalFor rs log = WhereTogether rs (λ v w. Legal (t.opens_by v) w log)
 
+  -- in each such world the log is complete at Ok
   abbrev pub IsComplete : List (RankState V A) → List Entry → Result ℕ AllocError → Type 0
   IsComplete rs log r = WhereTogether rs (λ v w. OnOk r (Complete (t.opens_by v) w log))
 
+  -- in each such world the rounds are within the bound at Ok
   abbrev pub IsInBound : List (RankState V A) → List Entry → Result ℕ AllocError → Type 0
   IsInBound rs log r = WhereTogether rs (λ v w. OnOk r (rounds_in log ≤ round_bound (t.opens_by v) w))
 
@@ -176,6 +183,7 @@ module _ {V A : Type 0} (t : visits.Ghosts V A) (a : seens.Ghosts A) where
   abbrev pub RunSomewhere : List (RankState V A) → Desk → ℕ → Type 0
   RunSomewhere rs d stage = (v : V) × (w : World) × Running t.opens_by (StandsIn t a) v w rs d stage
 
+  -- this is so for each visit and world in which the ranks run
   abbrev pub WhereRun : List (RankState V A) → Desk → ℕ → (V → World → Type 0) → Type 0
   WhereRun rs d stage P = (v : V) (w : World) → Running t.opens_by (StandsIn t a) v w rs d stage → P v w
 
@@ -183,6 +191,7 @@ module _ {V A : Type 0} (t : visits.Ghosts V A) (a : seens.Ghosts A) where
   abbrev pub RunOn : {W X : Type 0} (desk : W → Desk) → List (RankState V A) → W → List (RankState V A) → W → Result X AllocError → Type 0
   RunOn desk rs old us new r = WhereRun rs (desk old) 1 (λ v w. OnOk r (Running t.opens_by (StandsIn t a) v w us (desk new) 1))
 
+  -- in each world in which they ran the log is legal
   abbrev pub StaysLegal : List (RankState V A) → Desk → ℕ → Desk → Type 0
   StaysLegal rs d stage e = WhereRun rs d stage (λ v w. Legal (t.opens_by v) w e.log)
 

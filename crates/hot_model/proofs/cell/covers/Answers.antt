@@ -3,6 +3,7 @@ use Rattle.std.proofs.lemmas.Bool.{le-leb}
 use Rattle.hot_model.proofs.Digits.{covers-by}
 use Rattle.hot_model.proofs.cell.covers.Goals as goal
 
+-- where the cell's highest bit is at most the key's, the answer is what `covers` says
 pub returns-then-upper-lower : goal.returns-then-upper-lower
 returns-then-upper-lower c =
     let t : leb c.ilog2-upper.result c.ilog2-lower.result ≡ true = le-leb _ _ c.if-upper-lower.true in

@@ -2,6 +2,7 @@ use Rattle.std.proofs.lemmas.Bool.{eq-eqb, eqb-true}
 use Rattle.morton_key.proofs.Numbers.{cell_of_top, top_of_cell}
 use Rattle.morton_key.proofs.key.is_cell.Goals as goal
 
+-- of a number above 0 the test holds exactly where it is a cell key
 pub returns-then-key-ne0 : goal.returns-then-key-ne0
 returns-then-key-ne0 c =
     let key = c.args.key in

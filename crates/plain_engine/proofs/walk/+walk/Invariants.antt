@@ -3,9 +3,11 @@ use Rattle.hot_model.specs.Keys.{height}
 use Rattle.hot_model.specs.Trees.{added, mass_of, terms_in, digits, child, inside}
 use Rattle.plain_engine.proofs.walk.+walk.Given as goal
 
+-- how many levels are below the cell
 abbrev pub decreases-walk : goal.decreases-walk
 decreases-walk g l = height l.cell
 
+-- the terms of the first d children were added, and their mass was seen
 abbrev pub invariant-loop-d : goal.invariant-loop-d
 invariant-loop-d g l = record {
   value : l.acc ≡ added (g.V.Visit.adds l.visit l.b) l.initial.acc (flat_map (λ d. terms_in (g.V.Visit.opens_by l.visit l.b) l.leaf l.around (height l.cell - 1) (child l.cell d)) (take l.d digits));

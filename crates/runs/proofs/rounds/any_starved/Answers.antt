@@ -4,6 +4,7 @@ use Rattle.protocol.proofs.Weights.{same_or_not}
 use Rattle.rank_core.specs.Seats.{seat_of}
 use Rattle.runs.proofs.rounds.any_starved.Goals as goal
 
+-- where a starved rank is met, there is one
 pub returns-then-starved-clause-some : goal.returns-then-starved-clause-some
 returns-then-starved-clause-some g c = λ e. (
   c.loop-rank.rank-index,
@@ -12,6 +13,7 @@ returns-then-starved-clause-some g c = λ e. (
   sym c.starved.ensures.value ∙ c.if-starved.true,
 )
 
+-- with one more rank that is not starved, none so far is
 pub loop-rank-preserved : goal.loop-rank-preserved
 loop-rank-preserved g c = λ q r lt gr.
     let here = get_at c.args.ranks.now c.loop-rank.rank-index c.rank-item.result c.loop-rank-test.true ∙ ap (λ x. Some x) (sym c.rank-item.is) in
@@ -20,5 +22,6 @@ loop-rank-preserved g c = λ q r lt gr.
       | inr ne ↦ c.loop-rank.invariant q r (omega arith) gr
     ]
 
+-- where none was met, none is starved
 pub returns-clause-none : goal.returns-clause-none
 returns-clause-none g c = λ e q r gr. c.loop-rank.invariant q r (let lt = get_within c.args.ranks.now q r gr in omega arith) gr

@@ -4,11 +4,13 @@ use Rattle.rank_core.specs.Standing.{StandsIn}
 use Rattle.runs.proofs.Runs.{frame_on, frame_turned, running_turned}
 use Rattle.runs.proofs.rounds.deliver.Goals as goal
 
+-- before one more letter is taken the ranks run
 pub deliver_one-requires-in-loop-wire-clause-running : goal.deliver_one-requires-in-loop-wire-clause-running
 deliver_one-requires-in-loop-wire-clause-running g c κs within =
     let v = c.requires.running.0 in let w = c.requires.running.1 in
     (v, w, running_turned g.V.Visit.opens_by (StandsIn g.V.Visit g.V.Acc.Seen) v w c.loop-wire.ranks (g.M.Wire.desk c.loop-wire.wire) (g.M.Wire.desk c.more.new.self) Free c.if-more.ensures.turn (c.loop-wire.invariant.kept v w c.requires.running.2))
 
+-- with one more letter taken, what holds in the loop holds again
 pub loop-wire-preserved : goal.loop-wire-preserved
 loop-wire-preserved g c =
     let i = c.loop-wire.invariant in let e = c.in_ok-receivers-2.ensures in
@@ -23,20 +25,25 @@ loop-wire-preserved g c =
       taken = e.taken;
     }
 
+-- where memory is refused for a later letter, the log is legal
 pub returns-in_err-receivers-2-clause-legal : goal.returns-in_err-receivers-2-clause-legal
 returns-in_err-receivers-2-clause-legal g c = λ v w j.
     c.in_err-receivers-2.ensures.legal v w (running_turned g.V.Visit.opens_by (StandsIn g.V.Visit g.V.Acc.Seen) v w c.loop-wire.ranks (g.M.Wire.desk c.loop-wire.wire) (g.M.Wire.desk c.more.new.self) Free c.if-more.ensures.turn (c.loop-wire.invariant.kept v w j))
 
+-- where memory is refused for a later letter, the ranks have their numbers
 pub returns-in_err-receivers-2-clause-places : goal.returns-in_err-receivers-2-clause-places
 returns-in_err-receivers-2-clause-places g c = c.in_err-receivers-2.ensures.places ∙ c.loop-wire.invariant.places
 
+-- where the wire gives no more, the ranks run on
 pub returns-else-more-clause-kept : goal.returns-else-more-clause-kept
 returns-else-more-clause-kept g c = λ v w j.
     running_turned g.V.Visit.opens_by (StandsIn g.V.Visit g.V.Acc.Seen) v w c.loop-wire.ranks (g.M.Wire.desk c.loop-wire.wire) (g.M.Wire.desk c.more.new.self) Shut c.if-more.ensures.turn (c.loop-wire.invariant.kept v w j)
 
+-- where the wire gives no more, the log is legal
 pub returns-else-more-clause-legal : goal.returns-else-more-clause-legal
 returns-else-more-clause-legal g c = λ v w j.
     (running_turned g.V.Visit.opens_by (StandsIn g.V.Visit g.V.Acc.Seen) v w c.loop-wire.ranks (g.M.Wire.desk c.loop-wire.wire) (g.M.Wire.desk c.more.new.self) Shut c.if-more.ensures.turn (c.loop-wire.invariant.kept v w j)).joint.legal
 
+-- where nothing is pending any more, the log is legal
 pub returns-after-loop-wire-clause-legal : goal.returns-after-loop-wire-clause-legal
 returns-after-loop-wire-clause-legal g c = λ v w j. (c.loop-wire.invariant.kept v w j).joint.legal

@@ -7,6 +7,7 @@ use Rattle.rank_core.specs.Standing.{StandsIn}
 use Rattle.runs.specs.Running.{seats, numbers, Running, Frame}
 use Rattle.runs.proofs.rounds.deliver.Given as goal
 
+-- in each world in which the ranks ran they run, and a letter was taken in this round
 abbrev pub invariant-loop-wire : goal.invariant-loop-wire
 invariant-loop-wire g l = record {
   kept : (v : _) (w : World) → Running g.V.Visit.opens_by (StandsIn g.V.Visit g.V.Acc.Seen) v w l.fn.ranks (g.M.Wire.desk l.fn.wire) 1 → Running g.V.Visit.opens_by (StandsIn g.V.Visit g.V.Acc.Seen) v w l.ranks (g.M.Wire.desk l.wire) 1;
@@ -17,5 +18,6 @@ invariant-loop-wire g l = record {
   taken : taken_since (g.M.Wire.desk l.wire).log ≡ true;
 }
 
+-- how many letters are pending
 abbrev pub decreases-loop-wire : goal.decreases-loop-wire
 decreases-loop-wire g l = length (g.M.Wire.desk l.wire).pending

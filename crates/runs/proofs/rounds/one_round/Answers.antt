@@ -4,62 +4,80 @@ use Rattle.rank_core.specs.Standing.{StandsIn}
 use Rattle.runs.proofs.Runs.{running_step, worked_step, running_round, round_last, legal_round, round_err, room_left, nil_of, eager_back, numbers_step}
 use Rattle.runs.proofs.rounds.one_round.Goals as goal
 
+-- there is a world for which all ranks stand
 pub step_all-requires-clause-fit : goal.step_all-requires-clause-fit
 step_all-requires-clause-fit g c κs within = (c.requires.running.1, λ k d lt. c.requires.running.2.together.stand k (slice_index_or c.args.ranks.now k d) (get_at c.args.ranks.now k d lt))
 
+-- where a posting is refused, the round leaves a legal log
 pub returns-in_err-post_all-clause-kept : goal.returns-in_err-post_all-clause-kept
 returns-in_err-post_all-clause-kept g c = λ v w j.
     round_err g.V.Visit.opens_by (StandsIn g.V.Visit g.V.Acc.Seen) v w c.post_all.new.ranks (g.M.Wire.desk c.post_all.new.wire) c.from_residual.result c.from_residual.ensures.0 (c.in_err-post_all.ensures.legal v w (running_step g.V.Visit.opens_by (StandsIn g.V.Visit g.V.Acc.Seen) v w c.args.ranks.now c.step_all.new.ranks (g.M.Wire.desk c.args.wire.now) j c.requires.quiet c.requires.start c.step_all.ensures.each c.step_all.ensures.len (c.any_starved.ensures.none c.if-any_starved.false)))
 
+-- where a posting is refused, the log is legal
 pub returns-in_err-post_all-clause-legal : goal.returns-in_err-post_all-clause-legal
 returns-in_err-post_all-clause-legal g c = λ v w j. c.in_err-post_all.ensures.legal v w (running_step g.V.Visit.opens_by (StandsIn g.V.Visit g.V.Acc.Seen) v w c.args.ranks.now c.step_all.new.ranks (g.M.Wire.desk c.args.wire.now) j c.requires.quiet c.requires.start c.step_all.ensures.each c.step_all.ensures.len (c.any_starved.ensures.none c.if-any_starved.false))
 
+-- with nothing pending after the posting, the wire has room for the round
 pub round-requires-clause-room : goal.round-requires-clause-room
 round-requires-clause-room g c = (room_left g.V.Visit.opens_by (StandsIn g.V.Visit g.V.Acc.Seen) c.requires.running.0 c.requires.running.1 c.post_all.new.ranks (g.M.Wire.desk c.post_all.new.wire) 1 (c.in_ok-post_all.ensures.kept c.requires.running.0 c.requires.running.1 (running_step g.V.Visit.opens_by (StandsIn g.V.Visit g.V.Acc.Seen) c.requires.running.0 c.requires.running.1 c.args.ranks.now c.step_all.new.ranks (g.M.Wire.desk c.args.wire.now) c.requires.running.2 c.requires.quiet c.requires.start c.step_all.ensures.each c.step_all.ensures.len (c.any_starved.ensures.none c.if-any_starved.false)))).0
 
+-- with nothing pending after the posting, the round leaves what the last one leaves
 pub returns-then-pending-eq0-clause-kept : goal.returns-then-pending-eq0-clause-kept
 returns-then-pending-eq0-clause-kept g c = λ v w j.
     round_last g.V.Visit.opens_by (StandsIn g.V.Visit g.V.Acc.Seen) v w c.post_all.new.ranks (g.M.Wire.desk c.post_all.new.wire) (g.M.Wire.desk c.round.new.self) (c.in_ok-post_all.ensures.kept v w (running_step g.V.Visit.opens_by (StandsIn g.V.Visit g.V.Acc.Seen) v w c.args.ranks.now c.step_all.new.ranks (g.M.Wire.desk c.args.wire.now) j c.requires.quiet c.requires.start c.step_all.ensures.each c.step_all.ensures.len (c.any_starved.ensures.none c.if-any_starved.false)))
     (c.in_ok-post_all.ensures.worked (worked_step g.V.Visit.opens_by (StandsIn g.V.Visit g.V.Acc.Seen) c.requires.running.0 c.requires.running.1 c.args.ranks.now c.step_all.new.ranks (g.M.Wire.desk c.args.wire.now) c.requires.running.2 c.requires.quiet c.requires.start c.step_all.ensures.each c.step_all.ensures.len (c.any_starved.ensures.none c.if-any_starved.false))) c.in_ok-post_all.ensures.quiet (nil_of (g.M.Wire.desk c.post_all.new.wire).pending (sym c.pending.ensures.count ∙ c.if-pending-eq0.true)) c.round.ensures.ended
 
+-- with nothing pending after the posting, the log is legal
 pub returns-then-pending-eq0-clause-legal : goal.returns-then-pending-eq0-clause-legal
 returns-then-pending-eq0-clause-legal g c = λ v w j. legal_round g.V.Visit.opens_by (StandsIn g.V.Visit g.V.Acc.Seen) v w c.post_all.new.ranks (g.M.Wire.desk c.post_all.new.wire) (g.M.Wire.desk c.round.new.self) (c.in_ok-post_all.ensures.kept v w (running_step g.V.Visit.opens_by (StandsIn g.V.Visit g.V.Acc.Seen) v w c.args.ranks.now c.step_all.new.ranks (g.M.Wire.desk c.args.wire.now) j c.requires.quiet c.requires.start c.step_all.ensures.each c.step_all.ensures.len (c.any_starved.ensures.none c.if-any_starved.false))) c.round.ensures.ended
 
+-- after the posting the ranks run
 pub deliver-requires-clause-running : goal.deliver-requires-clause-running
 deliver-requires-clause-running g c κs within = (c.requires.running.0, c.requires.running.1, (c.in_ok-post_all.ensures.kept c.requires.running.0 c.requires.running.1 (running_step g.V.Visit.opens_by (StandsIn g.V.Visit g.V.Acc.Seen) c.requires.running.0 c.requires.running.1 c.args.ranks.now c.step_all.new.ranks (g.M.Wire.desk c.args.wire.now) c.requires.running.2 c.requires.quiet c.requires.start c.step_all.ensures.each c.step_all.ensures.len (c.any_starved.ensures.none c.if-any_starved.false))))
 
+-- where memory is refused for a letter, the round leaves a legal log
 pub returns-in_err-busy-clause-kept : goal.returns-in_err-busy-clause-kept
 returns-in_err-busy-clause-kept g c = λ v w j.
     round_err g.V.Visit.opens_by (StandsIn g.V.Visit g.V.Acc.Seen) v w c.deliver.new.ranks (g.M.Wire.desk c.deliver.new.wire) c.from_residual-in_err-busy.result c.from_residual-in_err-busy.ensures.0 (c.in_err-busy.ensures.legal v w (c.in_ok-post_all.ensures.kept v w (running_step g.V.Visit.opens_by (StandsIn g.V.Visit g.V.Acc.Seen) v w c.args.ranks.now c.step_all.new.ranks (g.M.Wire.desk c.args.wire.now) j c.requires.quiet c.requires.start c.step_all.ensures.each c.step_all.ensures.len (c.any_starved.ensures.none c.if-any_starved.false))))
 
+-- where memory is refused for a letter, the log is legal
 pub returns-in_err-busy-clause-legal : goal.returns-in_err-busy-clause-legal
 returns-in_err-busy-clause-legal g c = λ v w j. c.in_err-busy.ensures.legal v w (c.in_ok-post_all.ensures.kept v w (running_step g.V.Visit.opens_by (StandsIn g.V.Visit g.V.Acc.Seen) v w c.args.ranks.now c.step_all.new.ranks (g.M.Wire.desk c.args.wire.now) j c.requires.quiet c.requires.start c.step_all.ensures.each c.step_all.ensures.len (c.any_starved.ensures.none c.if-any_starved.false)))
 
+-- with letters taken, the wire has room for the round
 pub round-requires-2-clause-room : goal.round-requires-2-clause-room
 round-requires-2-clause-room g c = (room_left g.V.Visit.opens_by (StandsIn g.V.Visit g.V.Acc.Seen) c.requires.running.0 c.requires.running.1 c.deliver.new.ranks (g.M.Wire.desk c.deliver.new.wire) 1 (c.in_ok-busy.ensures.kept c.requires.running.0 c.requires.running.1 (c.in_ok-post_all.ensures.kept c.requires.running.0 c.requires.running.1 (running_step g.V.Visit.opens_by (StandsIn g.V.Visit g.V.Acc.Seen) c.requires.running.0 c.requires.running.1 c.args.ranks.now c.step_all.new.ranks (g.M.Wire.desk c.args.wire.now) c.requires.running.2 c.requires.quiet c.requires.start c.step_all.ensures.each c.step_all.ensures.len (c.any_starved.ensures.none c.if-any_starved.false))))).0
 
+-- with letters taken, the ranks run on to the next round
 pub returns-clause-kept : goal.returns-clause-kept
 returns-clause-kept g c = λ v w j.
     running_round g.V.Visit.opens_by (StandsIn g.V.Visit g.V.Acc.Seen) v w c.deliver.new.ranks (g.M.Wire.desk c.deliver.new.wire) (g.M.Wire.desk c.round-2.new.self) (c.in_ok-busy.ensures.kept v w (c.in_ok-post_all.ensures.kept v w (running_step g.V.Visit.opens_by (StandsIn g.V.Visit g.V.Acc.Seen) v w c.args.ranks.now c.step_all.new.ranks (g.M.Wire.desk c.args.wire.now) j c.requires.quiet c.requires.start c.step_all.ensures.each c.step_all.ensures.len (c.any_starved.ensures.none c.if-any_starved.false)))) c.in_ok-busy.ensures.taken
     (λ e. c.in_ok-busy.ensures.eager (eager_back c.post_all.new.ranks (g.M.Wire.desk c.post_all.new.wire) c.deliver.new.ranks (g.M.Wire.desk c.deliver.new.wire) c.in_ok-busy.ensures.frame e)) c.round-2.ensures.ended
 
+-- with letters taken, the log is legal
 pub returns-clause-legal : goal.returns-clause-legal
 returns-clause-legal g c = λ v w j. legal_round g.V.Visit.opens_by (StandsIn g.V.Visit g.V.Acc.Seen) v w c.deliver.new.ranks (g.M.Wire.desk c.deliver.new.wire) (g.M.Wire.desk c.round-2.new.self) (c.in_ok-busy.ensures.kept v w (c.in_ok-post_all.ensures.kept v w (running_step g.V.Visit.opens_by (StandsIn g.V.Visit g.V.Acc.Seen) v w c.args.ranks.now c.step_all.new.ranks (g.M.Wire.desk c.args.wire.now) j c.requires.quiet c.requires.start c.step_all.ensures.each c.step_all.ensures.len (c.any_starved.ensures.none c.if-any_starved.false)))) c.round-2.ensures.ended
 
+-- with letters taken, all outboxes are empty
 pub returns-clause-quiet : goal.returns-clause-quiet
 returns-clause-quiet g c = c.in_ok-busy.ensures.quiet c.in_ok-post_all.ensures.quiet
 
+-- where a rank is starved, the ranks have their numbers
 pub returns-then-any_starved-clause-places : goal.returns-then-any_starved-clause-places
 returns-then-any_starved-clause-places g c = numbers_step c.args.ranks.now c.step_all.new.ranks c.step_all.ensures.len (λ k d lt. (c.step_all.ensures.each k d lt).me)
 
+-- where a posting is refused, the ranks have their numbers
 pub returns-in_err-post_all-clause-places : goal.returns-in_err-post_all-clause-places
 returns-in_err-post_all-clause-places g c = c.in_err-post_all.ensures.places ∙ numbers_step c.args.ranks.now c.step_all.new.ranks c.step_all.ensures.len (λ k d lt. (c.step_all.ensures.each k d lt).me)
 
+-- with nothing pending after the posting, the ranks have their numbers
 pub returns-then-pending-eq0-clause-places : goal.returns-then-pending-eq0-clause-places
 returns-then-pending-eq0-clause-places g c = c.in_ok-post_all.ensures.places ∙ numbers_step c.args.ranks.now c.step_all.new.ranks c.step_all.ensures.len (λ k d lt. (c.step_all.ensures.each k d lt).me)
 
+-- where memory is refused for a letter, the ranks have their numbers
 pub returns-in_err-busy-clause-places : goal.returns-in_err-busy-clause-places
 returns-in_err-busy-clause-places g c = c.in_err-busy.ensures.places ∙ c.in_ok-post_all.ensures.places ∙ numbers_step c.args.ranks.now c.step_all.new.ranks c.step_all.ensures.len (λ k d lt. (c.step_all.ensures.each k d lt).me)
 
+-- with letters taken, the ranks have their numbers
 pub returns-clause-places : goal.returns-clause-places
 returns-clause-places g c = c.in_ok-busy.ensures.places ∙ c.in_ok-post_all.ensures.places ∙ numbers_step c.args.ranks.now c.step_all.new.ranks c.step_all.ensures.len (λ k d lt. (c.step_all.ensures.each k d lt).me)

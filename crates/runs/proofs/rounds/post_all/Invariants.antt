@@ -5,6 +5,7 @@ use Rattle.rank_core.specs.Standing.{StandsIn}
 use Rattle.runs.specs.Running.{seats, numbers, Running, Frame, QuietAt}
 use Rattle.runs.proofs.rounds.post_all.Given as goal
 
+-- in each world in which the ranks ran they run, and the outboxes below rank q are empty
 abbrev pub invariant-loop-q : goal.invariant-loop-q
 invariant-loop-q g l = record {
   kept : (v : _) (w : World) → Running g.V.Visit.opens_by (StandsIn g.V.Visit g.V.Acc.Seen) v w l.initial.ranks (g.M.Wire.desk l.initial.wire) 1 → Running g.V.Visit.opens_by (StandsIn g.V.Visit g.V.Acc.Seen) v w l.ranks (g.M.Wire.desk l.wire) 1;

@@ -5,6 +5,7 @@ use Rattle.rank_core.specs.Standing.{StandsIn}
 use Rattle.runs.specs.Running.{seats, numbers, Running, Frame, outbox_len}
 use Rattle.runs.proofs.rounds.post_rank.Given as goal
 
+-- in each world in which the ranks ran they run, and all but q are as they were
 abbrev pub invariant-loop-letter : goal.invariant-loop-letter
 invariant-loop-letter g l = record {
   within : l.q < length l.ranks;
@@ -16,5 +17,6 @@ invariant-loop-letter g l = record {
   turn : (g.M.Wire.desk l.wire).turn ≡ (g.M.Wire.desk l.initial.wire).turn;
 }
 
+-- how many letters stand in the outbox of rank q
 abbrev pub decreases-loop-letter : goal.decreases-loop-letter
 decreases-loop-letter g l = outbox_len (seats l.ranks) l.q

@@ -7,6 +7,7 @@ use Rattle.rank_core.specs.Standing.{StandsIn}
 use Rattle.runs.specs.Running.{most_rounds, seats, numbers, SameMail, Together, Running}
 use Rattle.runs.proofs.rounds.run.Given as goal
 
+-- before each round the ranks run, all outboxes are empty, and the rounds are counted
 abbrev pub invariant-loop-last : goal.invariant-loop-last
 invariant-loop-last g l = record {
   kept : (v : _) (w : World) → Together (StandsIn g.V.Visit g.V.Acc.Seen) v w l.fn.ranks.items → Running g.V.Visit.opens_by (StandsIn g.V.Visit g.V.Acc.Seen) v w l.ranks.items (g.M.Wire.desk l.wire) 0;
@@ -19,5 +20,6 @@ invariant-loop-last g l = record {
   len : length l.ranks.items ≡ length l.fn.ranks.items;
 }
 
+-- how many rounds may still come at most
 abbrev pub decreases-loop-last : goal.decreases-loop-last
 decreases-loop-last g l = most_rounds - rounds_in (g.M.Wire.desk l.wire).log

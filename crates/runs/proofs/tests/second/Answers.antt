@@ -5,10 +5,12 @@ use Rattle.rank_core.specs.Standing.{IsHere}
 use Rattle.rank_core.proofs.Samples.{here_second}
 use Rattle.runs.proofs.tests.second.Goals as goal
 
+-- there is a world whose second rank has this body
 pub new-requires-clause-fits : goal.new-requires-clause-fits
 new-requires-clause-fits g c κs within =
     (two, subst (λ (xs : List BodyValue). IsHere two 1 2 xs (Some 9223372036854775808) None 8) (sym (ap (λ (b : BodyValue). b ∷ []) c.body.ensures.value)) here_second)
 
+-- the rank stands for the world of two ranks
 pub returns-clause-stands : goal.returns-clause-stands
 returns-clause-stands g c =
     let stands = rw c.expect.ensures at c.new.ensures.stands in

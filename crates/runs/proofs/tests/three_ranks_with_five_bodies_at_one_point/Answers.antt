@@ -4,11 +4,13 @@ use Rattle.runs.proofs.Crowding.{crowd_good}
 use Rattle.runs.proofs.Couples.{three_new, three_together}
 use Rattle.runs.proofs.tests.three_ranks_with_five_bodies_at_one_point.Goals as goal
 
+-- there are a visit and a good world for which the three ranks are together
 pub run-requires-clause-together : goal.run-requires-clause-together
 run-requires-clause-together c κs within =
     let e : κs.push-3.new.self.items ≡ κs.crowded.result ∷ κs.empty.result ∷ κs.empty-2.result ∷ [] = search rules in
     (κs.gravity-visit.result, crowd, three_together _ κs.gravity-visit.result crowd κs.crowded.result κs.empty.result κs.empty-2.result κs.push-3.new.self.items e crowd_good refl κs.crowded.ensures.stands κs.empty.ensures.stands κs.empty-2.ensures.stands κs.crowded.ensures.visit κs.empty.ensures.visit κs.empty-2.ensures.visit)
 
+-- the three ranks are new
 pub run-requires-clause-new : goal.run-requires-clause-new
 run-requires-clause-new c κs within =
     let e : κs.push-3.new.self.items ≡ κs.crowded.result ∷ κs.empty.result ∷ κs.empty-2.result ∷ [] = search rules in

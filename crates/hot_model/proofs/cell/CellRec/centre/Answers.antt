@@ -5,6 +5,7 @@ use Rattle.hot_model.proofs.Keys.{part-in}
 use Rattle.hot_model.proofs.Corners.{centre-in-box, sx-in-cube, sy-in-cube, sz-in-cube}
 use Rattle.hot_model.proofs.cell.CellRec.centre.Goals as goal
 
+-- the centre is a place in the cube
 pub returns-clause-within : goal.returns-clause-within
 returns-clause-within c =
     let i = c.self.inside in
@@ -17,6 +18,7 @@ returns-clause-within c =
     let ze : i.mz ≡ i.sz / i.mass = c.self.invariant.3 in
     (omega (arith, x, xe), omega (arith, y, ye), omega (arith, z, ze))
 
+-- the centre of a record with bodies is in the box of its cell
 pub returns-clause-in_cell : goal.returns-clause-in_cell
 returns-clause-in_cell c =
     let i = c.self.inside in

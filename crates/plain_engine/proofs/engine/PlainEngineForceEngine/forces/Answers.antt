@@ -3,6 +3,7 @@ use Rattle.hot_model.specs.Trees.{Settings}
 use Rattle.plain_engine.proofs.Answer.{answers-more}
 use Rattle.plain_engine.proofs.engine.PlainEngineForceEngine.forces.Goals as goal
 
+-- with one more answer the answers are those for one more body
 pub loop-b-preserved : goal.loop-b-preserved
 loop-b-preserved c =
     let s : Settings = record { num = c.self.inside.ratio.num; den = c.self.inside.ratio.den; eps = c.self.inside.eps; leaf = c.self.inside.leaf; second = false } in
