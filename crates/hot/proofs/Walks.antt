@@ -38,6 +38,7 @@ world_is job set s r l = cc
 abbrev pub meaning_of : VisitValue → VisitOf Acc3Value
 meaning_of v = meaning (λ (x : VisitValue). untouched) (λ (x : VisitValue) b a t. gravity_adds x.second x.eps b a t) (λ (x : VisitValue) b c. not (accepts x.ratio.num x.ratio.den b c)) (λ (a : Acc3Value). a.seen) v
 
+-- a visit with the numbers of a run means the gravity of that run
 pub meaning_is : (v : VisitValue) (job : JobValue) → v ≡ record { ratio = job.ratio; eps = job.eps; second = job.moments == 2 } → meaning_of v ≡ gravity_of job
 meaning_is v job e = ap meaning_of e
 
