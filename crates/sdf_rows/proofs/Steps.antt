@@ -197,7 +197,7 @@ ended_rows l bytes rest some lacks ends =
 pub held_part : (l : LayoutValue) (bytes : List ℕ) → is_full l bytes ≡ false → (reader_behind l bytes).held ≡ part_behind l bytes
 held_part l bytes lacks = rw lacks refl
 
--- and the rows it has given are the whole ones, in number
+-- and it has given as many rows as there are whole ones
 pub given_number : (l : LayoutValue) (bytes : List ℕ) → is_full l bytes ≡ false → (reader_behind l bytes).given ≡ row_number (length bytes / l.width)
 given_number l bytes lacks = ap row_number (all_counted l.count l.width (length bytes) lacks)
 
