@@ -6,17 +6,17 @@ use Rattle.body_file.proofs.Takings.{undecided}
 use Rattle.body_file.proofs.Readings.{end_taken, prompt_more, prompt_now, prompt_begin, nothing_undecided, stopped_by, ended_with, nearer}
 use Rattle.body_file.proofs.read.read_bodies.Goals as goal
 
--- where the open fails, the reading is that of a file not opened
+-- where the open fails, the source has failed, and the bytes taken decide no fault
 pub returns-then-is_err-clause-answer : goal.returns-then-is_err-clause-answer
 returns-then-is_err-clause-answer g c = (unopened, search rules, prompt_begin unopened refl, (refl, nothing_undecided))
 
--- where memory lacks for the reader, the file is open and no byte was taken
+-- where memory lacks for the reader, the source has not failed
 pub returns-in_err-reader-clause-answer : goal.returns-in_err-reader-clause-answer
 returns-in_err-reader-clause-answer g c =
     let p = err_from_is_err_and c.from_residual.result c.from_residual.ensures.1 in
     (unfinished [], search rules, prompt_begin (unfinished []) refl, rw (p.1, p.2) refl)
 
--- before the first read the source is open, and no byte was taken
+-- before the first read the source is open and has not failed
 pub pieces-init : goal.pieces-init
 pieces-init g c = record {
   unfailed = search rules;
@@ -27,7 +27,7 @@ pieces-init g c = record {
   taken = ([], c.in_ok-reader.ensures, search rules);
 }
 
--- where a read fails, the reading is that of the bytes taken before it
+-- where a read fails, the source has failed, and the bytes taken decide no fault
 pub returns-in_default-clause-answer : goal.returns-in_default-clause-answer
 returns-in_default-clause-answer g c =
     let t = c.pieces.invariant.taken in (
@@ -37,7 +37,7 @@ returns-in_default-clause-answer g c =
       (refl, undecided c.pieces.reader t.0 t.1),
     )
 
--- where a read gives nothing, the file has ended and the reader has its verdict
+-- where a read gives nothing, the answer is the bodies of the file, or why there are none
 pub returns-then-count-eq0-clause-answer : goal.returns-then-count-eq0-clause-answer
 returns-then-count-eq0-clause-answer g c =
     let t = c.pieces.invariant.taken in (
@@ -47,7 +47,7 @@ returns-then-count-eq0-clause-answer g c =
       ended_with t.0 c.finish.result (c.finish.ensures.answer t.0 t.1),
     )
 
--- where the reader stops at a piece, the reading ends with that piece
+-- where the reader stops at a piece, the bytes taken decide the fault, or memory ran out
 pub returns-in_err-reader-2-clause-answer : goal.returns-in_err-reader-2-clause-answer
 returns-in_err-reader-2-clause-answer g c =
     let t = c.pieces.invariant.taken in

@@ -12,7 +12,7 @@ returns-in-Err c =
     let whole = c.requires.whole in
     rw c.header_error.ensures (whole_refused whole.0 c.args.header c.args.piece.now c.in-Err.error whole.1 c.in-Err.ensures.value)
 
--- the new reader of rows and the empty set stand behind the header with no bytes
+-- the new reader of rows and the empty set stand at the same bytes behind a header
 pub take_rows-requires : goal.take_rows-requires
 take_rows-requires c =
     record { fed = (c.in-Ok.layout, [], rows_begin c.in-Ok.layout c.new-rows.result c.new-set.result c.in-Ok.ensures.facts c.new-rows.ensures.empty (c.new-set.ensures.empty ∙ ap (λ (v : LayoutValue). empty_set v.cube) c.layout.view_is)) }

@@ -15,7 +15,7 @@ returns-in_default-clause-within c =
     let fed = c.requires.fed in
     (some_taken fed.0 c.args.rows.now c.feed.new.self c.args.set.now fed.1 c.args.piece.now c.in-Ok.step fed.2 says c.requires.some, c.in-Ok.ensures.within)
 
--- within a row the set stays, and is that of the bytes so far
+-- within a row the set is that of the bytes so far
 pub returns-in_default-clause-step : goal.returns-in_default-clause-step
 returns-in_default-clause-step c = λ l bytes at.
     let says : SaysStep c.args.rows.now c.feed.new.self c.args.piece.now c.in-Ok.step = record { answer = c.in-Ok.ensures.answer; after = c.in-Ok.ensures.after; rows = c.in-Ok.ensures.rows; layout = c.in-Ok.ensures.layout } in

@@ -8,7 +8,7 @@ use Rattle.body_file.proofs.rows.take_rows.Goals as goal
 pub rows-init : goal.rows-init
 rows-init c = ([], refl, λ layout bytes at. subst (λ b. IsAt layout c.args.rows.now c.args.set.now b) (sym (append-nil bytes)) at)
 
--- while a rest is left, the set is that of the bytes before it
+-- a rest that is left has a byte, and reader and set stand at the same bytes
 pub take_row-requires : goal.take_row-requires
 take_row-requires c =
     let inv = c.rows.invariant in

@@ -13,7 +13,7 @@ report_if-requires g c = record {
       walk_here g.M.Wire.desk (job_value c.args.job.now) c.args.set c.in_ok-ordered.ordered c.args.shows c.args.wire.now c.walk_job.new.wire c.in_ok-found.found.accs.items c.in_ok-found.found.efforts.items c.in_ok-found.found.opened.items c.in_ok-found.found.rounds c.in_ok-ordered.ensures.ordered c.in_ok-found.found w.0 w.1 w.2 w.3;
 }
 
--- where memory lacks for the forces, the wire is left as a begun run leaves it
+-- where memory lacks for the forces, the wire was not used, or is left as by a begun run
 pub returns-in_err-forces : goal.returns-in_err-forces
 returns-in_err-forces g c = record {
   ran =

@@ -10,7 +10,7 @@ here_at g c κs within = (
       c.bodies-bodies.ensures.facts c.args.sharing.one c.requires.ranks c.requires.split (c.range-from.ensures.piece c.args.set.now c.bodies-bodies.ensures.facts) c.bodies-bodies.ensures.value refl c.neighbours-left.ensures.left c.neighbours-left.ensures.right,
 )
 
--- the piece with its neighbours is that of the rank in the world of the set
+-- there is a world in which the piece with its neighbours is that of the rank
 pub new-requires-clause-fits : goal.new-requires-clause-fits
 new-requires-clause-fits g c κs within = here_at g c κs within
 

@@ -18,7 +18,7 @@ loop-count-init c =
           ∙ (ap (λ (n : ℕ). n ∷ []) (sym none) ∙ sym (none-yet (start (world_of c.args.set.now c.args.ranks)))));
     }
 
--- the next start is within the list, so the sum fits
+-- the start of a rank and its count together fit
 pub overflow_add-at : goal.overflow_add-at
 overflow_add-at c =
     let q = c.loop-count.count-index in

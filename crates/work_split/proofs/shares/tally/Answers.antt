@@ -8,7 +8,7 @@ use Rattle.work_split.proofs.Passes.{rank-first, ahead-first, counts-first, sums
 use Rattle.work_split.proofs.shares.tally.Goals as goal
 use Rattle.work_split.proofs.shares.tally.Goals.{then-b-key, else-b-key, then-all-eq0, else-all-eq0}
 
--- before the first body the counts and weights are 0, and the rank is 0
+-- before the first body counts and weights are those of no bodies
 pub loop-b-init : goal.loop-b-init
 loop-b-init c =
     let counts_are : c.in_ok-counts.counts.items ≡ replicate c.args.ranks 0 = c.in_ok-counts.ensures.items_if_clones_equal (λ y h. search rules) in
@@ -24,7 +24,7 @@ loop-b-init c =
       sums = sums-first c.args.bodies.now c.args.weights.now c.args.ranks c.in_ok-sums.sums.items sums_are;
     }
 
--- a count is at most the number of bodies passed, so one more fits
+-- a rank's count with one body more fits
 pub overflow_add-index_mut : goal.overflow_add-index_mut
 overflow_add-index_mut c =
     let i = c.loop-b.b-index in
@@ -35,7 +35,7 @@ overflow_add-index_mut c =
     let few = count-within c.args.bodies.now c.args.weights.now c.args.ranks rank (take i c.args.bodies.now) c.loop-b.counts.items c.loop-b.invariant.counts in
     omega (arith, now, few, take-short i c.args.bodies.now, c.requires.few)
 
--- a weight is at most that of the bodies passed, so one body's more fits
+-- a rank's weight with that of one body more fits
 pub overflow_add-index_mut-in-loop-b : goal.overflow_add-index_mut-in-loop-b
 overflow_add-index_mut-in-loop-b c =
     let i = c.loop-b.b-index in

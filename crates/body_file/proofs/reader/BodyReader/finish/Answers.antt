@@ -13,7 +13,7 @@ unreachable-requires c =
     let taken = subst (λ r. HasTaken r fed.0) c.in-Header.is fed.1 in
     open_refused c.in-Header.header c.in-Ok.field-0 (ap extent taken.0 ∙ taken.1) c.in-Ok.ensures.value
 
--- bytes that end within the header are refused with its fault
+-- bytes that end within the header decide its fault, or memory ran out
 pub returns-in-Err-clause-answer : goal.returns-in-Err-clause-answer
 returns-in-Err-clause-answer c = λ bytes t.
     let taken = subst (λ r. HasTaken r bytes) c.in-Header.is t in
