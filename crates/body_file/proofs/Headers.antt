@@ -49,12 +49,12 @@ pub open_ended : (bytes : List ℕ) (f : HeaderFault) → extent bytes ≡ Open 
 unfolding decided
 open_ended bytes f e v = rw (e, v) refl
 
--- bytes in whose header the end has not come give no layout
+-- bytes whose header goes on give no layout
 pub open_refused : (bytes : List ℕ) (l : LayoutValue) → extent bytes ≡ Open → verdict bytes ≡ Ok l → ⊥
 unfolding verdict
 open_refused bytes l e v = absurd (cc (rw e at v))
 
--- no bytes at all are a header that goes on
+-- with no bytes at all the header goes on
 pub nothing_open : extent [] ≡ Open
 unfolding extent
 nothing_open = refl

@@ -71,13 +71,13 @@ module _ {V A : Type 0} (Stands : World → RankState V A → Type 0) where
     | inr h ↦ (let at : q ≡ k = sym n ∙ sym h.0 in subst (λ (y : RankState V A). IsRankOf Stands v w k y) h.1 (subst (λ (j : ℕ). IsRankOf Stands v w j r) at m))
   ]
 
-  -- ranks that are all made have done nothing yet
+  -- where all ranks of a world are made, they have done nothing yet
   pub made-new : (v : V) (w : World) (rs : List (RankState V A)) → length rs ≡ w.ranks → AllMade v w rs → AllNew (seats rs)
   made-new v w rs n all q s g =
       let at = rank_at rs q s g in
       let long : w.ranks ≡ length (seats rs) = sym n ∙ sym (seats_len rs) in
       subst (λ (t : Seat). IsNew q (length (seats rs)) t) at.2 (subst (λ (m : ℕ). IsNew q m (seat_of at.0)) long (all q at.0 at.1).new)
 
-  -- ranks that are all made stand together for their world
+  -- where all ranks of a good world are made, they stand together for it
   pub made-together : (v : V) (w : World) (rs : List (RankState V A)) → IsGood w → length rs ≡ w.ranks → AllMade v w rs → Together Stands v w rs
   made-together v w rs g n all = record { good = g; ranks = n; stand = λ q r h. (all q r h).stands; visit = λ q r h. (all q r h).visit }

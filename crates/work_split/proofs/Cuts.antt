@@ -134,7 +134,7 @@ lower-next f q (x ∷ xs) = elim (cases_lt (f x) q) [
   ]
 ]
 
--- no number is below 0
+-- none of a list has a number below 0
 pub lower-none : (f : BodyValue → ℕ) (xs : List BodyValue) → lower f 0 xs ≡ 0
 lower-none f [] = refl
 lower-none f (x ∷ xs) = lower-out f 0 x xs (omega arith) ∙ lower-none f xs

@@ -21,7 +21,7 @@ returns-in_err-forces g c = record {
       ran_err g.M.Wire.desk (job_value c.args.job.now) c.args.set c.in_ok-ordered.ordered c.args.shows c.args.wire.now c.walk_job.new.wire c.in_ok-found.found.accs.items c.in_ok-found.found.efforts.items c.in_ok-found.found.opened.items c.in_ok-found.found.rounds c.in_ok-ordered.ensures.ordered c.in_ok-found.found c.from_residual-in_err-forces.result _ w.0 c.from_residual-in_err-forces.ensures.0 w.1 w.2;
 }
 
--- bodies, forces and report are those of the run, and the wire is left at its end
+-- bodies, forces and report are those of the run, which came to its end on the wire
 pub returns : goal.returns
 returns g c = record {
   ran =
