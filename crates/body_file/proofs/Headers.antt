@@ -49,26 +49,31 @@ pub open_ended : (bytes : List ℕ) (f : HeaderFault) → extent bytes ≡ Open 
 unfolding decided
 open_ended bytes f e v = rw (e, v) refl
 
+-- bytes whose header goes on give no layout
 pub open_refused : (bytes : List ℕ) (l : LayoutValue) → extent bytes ≡ Open → verdict bytes ≡ Ok l → ⊥
 unfolding verdict
 open_refused bytes l e v = absurd (cc (rw e at v))
 
+-- with no bytes at all the header goes on
 pub nothing_open : extent [] ≡ Open
 unfolding extent
 nothing_open = refl
 
 -- ---- the answers to a piece
 
+-- more is asked for only where the header goes on
 pub told_more : (e : Extent) (n : ℕ) → Ok More ≡ told e n → e ≡ Open
 told_more (Faulty f) n h = absurd cc
 told_more Open n h = refl
 told_more (Ends text len) n h = absurd cc
 
+-- a fault is told only where it is the one that the bytes so far decide
 pub told_fault : (e : Extent) (n : ℕ) (f : HeaderFault) → Err f ≡ told e n → e ≡ Faulty f
 told_fault (Faulty g) n f h = cc
 told_fault Open n f h = absurd cc
 told_fault (Ends text len) n f h = absurd cc
 
+-- an end is told only where the header ends, with its length less the bytes before
 pub told_end : (e : Extent) (n k : ℕ) → Ok (Ended k) ≡ told e n → (text : ℕ) × (len : ℕ) × (e ≡ Ends text len) × (k ≡ len - n)
 told_end (Faulty f) n k h = absurd cc
 told_end Open n k h = absurd cc

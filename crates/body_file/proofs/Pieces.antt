@@ -3,10 +3,12 @@ use Rattle.std.proofs.Common.{◌≡◌, ℕ, suc, ◌-◌, ◌<◌, ◌≤◌, 
 use Rattle.std.proofs.lemmas.Bool.Decides.{nat_tests}
 use Rattle.std.proofs.lemmas.List.{take_all, take-append-drop}
 
+-- a list of length 0 is empty
 pub none_left : (xs : List ℕ) → true ≡ (length xs == 0) → xs ≡ []
 none_left [] e = refl
 none_left (x ∷ xs) e = absurd (grind (arith, nat_tests))
 
+-- a list of another length has at least one byte
 pub some_left : (xs : List ℕ) → false ≡ (length xs == 0) → 1 ≤ length xs
 some_left [] e = absurd cc
 some_left (x ∷ xs) e = omega arith

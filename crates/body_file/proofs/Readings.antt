@@ -32,6 +32,7 @@ prompt_now input reader bytes t e = prompt_more input reader bytes [] t (e ∙ s
 pub nothing_undecided : decided false [] ≡ None
 nothing_undecided = open_undecided [] nothing_open
 
+-- a reading that took no byte is prompt
 pub prompt_begin : (input : Reading) → taken input ≡ [] → IsPrompt input
 prompt_begin input e = record { front = []; last = []; all = e; one_read = omega arith; undecided = nothing_undecided; early = omega arith }
 

@@ -41,6 +41,7 @@ refused_push cube raws raw =
 
 -- ---- the whole rows of bytes
 
+-- the list of the first n rows has length n
 pub first_length : (l : LayoutValue) (bytes : List ℕ) (n : ℕ) → length (first_rows l bytes n) ≡ n
 first_length l bytes zero = refl
 first_length l bytes (suc n) =

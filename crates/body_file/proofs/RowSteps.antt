@@ -64,6 +64,7 @@ takes_some l bytes piece step wide some e =
 
 -- ---- faults that stay
 
+-- where the first of two faults is none, neither is there
 pub none_of : (a b : Option FileFault) → first_of a b ≡ None → (a ≡ None) × (b ≡ None)
 none_of None b e = (refl, e)
 none_of (Some f) b e = absurd cc
@@ -184,6 +185,7 @@ pub record SaysStep (r r' : RowsValue) (piece : List ℕ) (step : RowStep) : Typ
   pub rows : (bytes : List ℕ) → IsBehind r bytes → rows r.layout (bytes ++ take step.taken piece) ≡ rows r.layout bytes ++ row_list step.row
   pub layout : r'.layout ≡ r.layout
 
+-- an answer that is no fault takes the piece up to the end of the current row at most
 pub stepped : (l : LayoutValue) (r r' : RowsValue) (set : SetValue) (bytes piece : List ℕ) (step : RowStep) → IsAt l r set bytes → SaysStep r r' piece step → Stepped l r' bytes piece step
 stepped l r r' set bytes piece step at says =
     let answer = says.answer bytes at.behind in

@@ -20,5 +20,6 @@ unfolding decided
 by_verdict bytes (Ok l) e h = (set_of_rows l.cube (rows l (drop l.header_len bytes)), record { layout = l; header = e; good = h; are = refl })
 by_verdict bytes (Err f) e h = absurd (cc (rw (known_at_end (extent bytes), e) at h))
 
+-- a file without a fault has bodies
 pub has_verdict : laws.HasVerdict
 has_verdict bytes h = by_verdict bytes (verdict bytes) refl h

@@ -8,5 +8,6 @@ three_pieces old new result a b c text e w =
     let one : a ++ (b ++ (c ++ [])) ≡ text = ap (λ (l : List ℕ). a ++ (b ++ l)) (append-nil c) ∙ sym e in
     subst (λ (l : List ℕ). Writes old new result l) one w
 
+-- three parts joined are the same where each part is
 pub three_same : (a b c d e f : List ℕ) → a ≡ d → b ≡ e → c ≡ f → a ++ (b ++ c) ≡ d ++ (e ++ f)
 three_same a b c d e f p q r = cc

@@ -34,6 +34,7 @@ pub state-none : (seed : ℕ) → seed ≡ state_at seed 0
 unfolding state_at
 state-none seed = refl
 
+-- the state past the draws of body k is that before the next one
 pub state-more : (seed k n state next : ℕ) → state ≡ state_at seed k → next ≡ state_past state → n ≡ suc k → next ≡ state_at seed n
 unfolding state_at
 state-more seed k n state next s e m = e ∙ ap state_past s ∙ ap (state_at seed) (sym m)
@@ -44,12 +45,14 @@ made-none set seed e =
     let rows = items-none (λ k. row_of k (place_at seed k)) in
     e ∙ sym (ap (set_of_rows made_cube) rows ∙ rows_add_up.none made_cube)
 
+-- the set of k bodies with the row of body k is the set of one body more
 pub made-more : (old new : SetValue) (seed k n : ℕ) (place : Place) → old ≡ made_set k seed → place ≡ place_at seed k → new ≡ with_row old (row_of k place) → n ≡ suc k → new ≡ made_set n seed
 made-more old new seed k n place o p e m =
     let rows : map (λ j. row_of j (place_at seed j)) (numbers_below (suc k)) ≡ map (λ j. row_of j (place_at seed j)) (numbers_below k) ++ row_of k (place_at seed k) ∷ [] = items-suc (λ j. row_of j (place_at seed j)) k in
     let one = rows_add_up.one_more made_cube (map (λ j. row_of j (place_at seed j)) (numbers_below k)) (row_of k (place_at seed k)) in
     e ∙ ap (λ s. with_row s (row_of k place)) o ∙ ap (λ q. with_row (made_set k seed) (row_of k q)) p ∙ one ∙ ap (set_of_rows made_cube) (sym rows) ∙ ap (λ j. made_set j seed) (sym m)
 
+-- the set of k bodies has k bodies
 pub made-long : (set : SetValue) (seed k : ℕ) → set ≡ made_set k seed → length set.bodies ≡ k
 made-long set seed k e =
     ap (λ (s : SetValue). length s.bodies) e
@@ -61,6 +64,7 @@ made-long set seed k e =
 pub rows-none : (seed : ℕ) → flat_map row_bytes (places 0 seed) ≡ []
 rows-none seed = ap (flat_map row_bytes) (items-none (place_at seed))
 
+-- the rows of one body more are those of k bodies and, behind them, the row of body k
 pub rows-more : (seed k n : ℕ) (place : Place) → place ≡ place_at seed k → n ≡ suc k → flat_map row_bytes (places n seed) ≡ flat_map row_bytes (places k seed) ++ row_bytes place
 rows-more seed k n place p m =
     ap (λ j. flat_map row_bytes (places j seed)) m

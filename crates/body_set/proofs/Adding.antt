@@ -7,6 +7,7 @@ use Rattle.body_set.specs.Rows.{body_of_row, weight_of_row}
 use Rattle.body_set.specs.Sets.{SetValue, bodies_from, set_of_rows, with_row, empty_set}
 use Rattle.body_set.specs.Laws as laws
 
+-- there are as many bodies as rows
 pub bodies-length : (cube : CubeValue) (k : ℕ) (raws : List RawRow) → length (bodies_from cube k raws) ≡ length raws
 unfolding bodies_from
 bodies-length cube k [] = refl
@@ -36,5 +37,6 @@ none : (cube : CubeValue) → set_of_rows cube [] ≡ empty_set cube
 unfolding bodies_from
 none cube = refl
 
+-- a set to which rows are added one by one is the set of the list of these rows
 pub rows_add_up : laws.RowsAddUp
 rows_add_up = record { none = none; one_more = one_more }

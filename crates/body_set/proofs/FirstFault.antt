@@ -10,6 +10,7 @@ use Rattle.body_set.specs.declared.fault.PushError.{PushError}
 use Rattle.body_set.specs.declared.fault.PushError.TheVariants.{TooMany, Outside, MassRange, WorkRange}
 use Rattle.body_set.specs.Rows.{unless, is_inside, is_between, first_fault}
 
+-- the first of six faults is that of the first test that fails, and none where none fails
 pub first_of_six : (a b c d e f : Bool) (p q r s t u : PushError) → slice_get (unless a p ++ unless b q ++ unless c r ++ unless d s ++ unless e t ++ unless f u) 0 ≡ cond a (cond b (cond c (cond d (cond e (cond f None (Some u)) (Some t)) (Some s)) (Some r)) (Some q)) (Some p)
 first_of_six false b c d e f p q r s t u = refl
 first_of_six true false c d e f p q r s t u = refl

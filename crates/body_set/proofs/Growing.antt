@@ -16,6 +16,7 @@ rows_more xs b h e i d k =
       | inr p ↦ let q : i ≡ length xs = omega (arith, length-append xs (b ∷ [])) in rw (q, get_or_push) e
     ]
 
+-- a set with room makes a set with a body of the next row, its ident and its weight
 pub grown_set : (xs : List BodyValue) (idents : List ℤ) (weights : List ℕ) (b : BodyValue) (ident : ℤ) (weight : ℕ) → IsSet xs idents weights → IsBody b → b.row ≡ length xs → length xs < max_bodies → IsSet (xs ++ b ∷ []) (idents ++ ident ∷ []) (weights ++ weight ∷ [])
 grown_set xs idents weights b ident weight s i e h =
     let n = length-append xs (b ∷ []) in

@@ -115,6 +115,7 @@ has_placed b (x ∷ xs) y m = by_test (has_placed b xs y) (before b x)
           ]
         ]
 
+-- a member of the ordered list is one of the list
 pub ordered_has : (xs : List BodyValue) (y : BodyValue) → Contains (ordered xs) y → Contains xs y
 unfolding ordered
 ordered_has [] y m = m
@@ -124,6 +125,7 @@ ordered_has (x ∷ xs) y m =
       | inr e ↦ tail_has x xs y (ordered_has xs y e)
     ]
 
+-- a member of the list is one of the ordered list
 pub has_ordered : (xs : List BodyValue) (y : BodyValue) → Contains xs y → Contains (ordered xs) y
 unfolding ordered
 has_ordered [] y m = m
@@ -216,14 +218,17 @@ counts_from k (x ∷ xs) h r =
           (omega (arith, s, u, rest.0), λ p. (let z : count_row r xs ≡ 0 = rest.1 (omega (arith, p)) in omega (arith, s, u, z)))
     ]
 
+-- where the rows count up, no row stands twice
 pub one_each : (xs : List BodyValue) → RowsCount xs → OneEach xs
 one_each xs h r = (counts_from 0 xs (λ i d p. (let q = h i d p in omega (arith, q))) r).0
 
+-- what stands at a place of a list is a member of it
 pub has_at : (xs : List BodyValue) (j : ℕ) (d : BodyValue) → j < length xs → Contains xs (get_or xs j d)
 has_at [] j d h = absurd (omega (arith, h))
 has_at (x ∷ xs) zero d h = head_has x xs
 has_at (x ∷ xs) (suc j) d h = tail_has x xs (get_or xs j d) (has_at xs j d (omega (arith, h)))
 
+-- where no row stands twice, bodies at different places have different rows
 pub rows_differ : (xs : List BodyValue) → OneEach xs → RowsDiffer xs
 rows_differ [] h i j d p q e = absurd (omega (arith, p))
 rows_differ (x ∷ xs) h zero zero d p q e = refl
@@ -231,6 +236,7 @@ rows_differ (x ∷ xs) h zero (suc j) d p q e = absurd (rows_apart x xs (get_or 
 rows_differ (x ∷ xs) h (suc i) zero d p q e = absurd (rows_apart x xs (get_or xs i d) h (has_at xs i d (omega (arith, p))) e)
 rows_differ (x ∷ xs) h (suc i) (suc j) d p q e = ap suc (rows_differ xs (one_each_tail x xs h) i j d (omega (arith, p)) (omega (arith, q)) e)
 
+-- the same holds of the bodies in any other order
 pub differ_moved : (xs ys : List BodyValue) → OneEach xs → IsPermutation xs ys → RowsDiffer ys
 differ_moved xs ys h p = rows_differ ys (one_each_moved xs ys h p)
 
@@ -239,6 +245,7 @@ pub before_is : (a b : BodyValue) → before a b ≡ (ltb (key_of_body a) (key_o
 unfolding before
 before_is a b = refl
 
+-- of two pairs of numbers the first counts, and where they are equal the second
 pub two_compared : (j k m n : ℕ) → is_lt (ordering_then (nat_cmp j k) (nat_cmp m n)) ≡ (ltb j k || (eqb j k && ltb m n))
 two_compared j k m n = grind (arith, nat_tests)
 

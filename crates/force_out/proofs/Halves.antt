@@ -39,6 +39,7 @@ halves-only value (pos a) lo h = subst (λ (v : ℤ). (pos a ≡ high_half v) ×
 halves-only value (negsuc a) lo h =
     subst (λ (v : ℤ). (negsuc a ≡ high_half v) × (lo ≡ low_half v)) (sym (h.joined ∙ join-negsuc a lo h.below)) (halves-of-negsuc a lo h.below)
 
+-- a value has one high and one low half, and these are they
 pub one-parting : (value hi : ℤ) (lo : ℕ) → AreHalves value hi lo ↔ ((hi ≡ high_half value) × (lo ≡ low_half value))
 one-parting value hi lo = (
   halves-only value hi lo,
@@ -55,6 +56,7 @@ pub twos_complement-back : (hi : ℤ) → FitsSigned w64 hi → twos_complement 
 twos_complement-back (pos n) f = let h : n < 2 ^ 63 = f.sfits in grind (arith, nat_tests)
 twos_complement-back (negsuc n) f = let h : n < 2 ^ 63 = f.sfits in grind (arith, nat_tests)
 
+-- a signed number of 64 bits, taken as an unsigned one, is below 2^64
 pub unsigned-fits : (hi : ℤ) → FitsSigned w64 hi → cast_unsigned w64 hi < 2 ^ 64
 unsigned-fits (pos n) f = let h : n < 2 ^ 63 = f.sfits in omega arith
 unsigned-fits (negsuc n) f = omega arith

@@ -28,6 +28,7 @@ zip-at (m ∷ idents) (a ∷ forces) (suc i) n f h k d e =
 
 -- texts of one item for each body
 module _ (line : ℤ × Acc3Value → List ℕ) where
+  -- the texts of all bodies, in their order
   abbrev pub texts : List ℤ → List Acc3Value → List ℕ
   texts idents forces = flat_map line (zip idents forces)
 

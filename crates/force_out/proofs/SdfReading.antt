@@ -62,6 +62,7 @@ row-tells front rest place n f e are =
       az = ap value_of (drop-behind front row place 48 e) ∙ value_of-back f.az rest are.az;
     }
 
+-- row k tells the ident of body k and the force on it, where these are numbers of 128 bits
 pub all-told : (idents : List ℤ) (forces : List Acc3Value) (k : ℕ) (ident : ℤ) (force : Acc3Value) → slice_get idents k ≡ Some ident → slice_get forces k ≡ Some force → Are128Bits ident force
     → TellsBody (forces_sdf idents forces) (row_place (length forces) k) ident force
 all-told idents forces k ident force d e are =

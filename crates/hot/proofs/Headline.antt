@@ -40,6 +40,7 @@ module _ (job : JobValue) (set : SetValue) (d : Desk) (run : HasRun (opens_in jo
     | inr z ↦ inr (λ n. let t = times-has c (needed (opens_in job) (world_in job set) q) ((needed-are (opens_in job) (world_in job set) q c).1 n) in omega arith)
   ]
 
+  -- the cells that a rank asked for are those that it needs
   pub asked_needs : (q c : ℕ) → Contains (keys_asked q d.log) c ↔ Needs (opens_in job) (world_in job set) q c
   asked_needs q c = (
     (λ h. elim (needs_or_not q c) [
@@ -49,12 +50,14 @@ module _ (job : JobValue) (set : SetValue) (d : Desk) (run : HasRun (opens_in jo
     (λ n. has-times c (keys_asked q d.log) (let e = asked_count q c d.log in let z = (exact q c).0 n in omega arith)),
   )
 
+  -- a rank asked for no cell twice
   pub asked_once : (q c : ℕ) → times c (keys_asked q d.log) ≤ 1
   asked_once q c = elim (needs_or_not q c) [
     | inl n ↦ (let e = asked_count q c d.log in let z = (exact q c).0 n in omega arith)
     | inr no_need ↦ (let e = asked_count q c d.log in let z = (exact q c).1 no_need in omega arith)
   ]
 
+  -- all that the headline says of the wire
   pub asks : AsksExactly job set d
   asks = record { ran = run; asked = asked_needs; once = asked_once; letters = run.letters; bound = run.bound; few = λ e. run.few (run.prompt e); mail = run.begun.mail_is }
 

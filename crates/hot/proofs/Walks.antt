@@ -38,15 +38,18 @@ world_is job set s r l = cc
 abbrev pub meaning_of : VisitValue → VisitOf Acc3Value
 meaning_of v = meaning (λ (x : VisitValue). untouched) (λ (x : VisitValue) b a t. gravity_adds x.second x.eps b a t) (λ (x : VisitValue) b c. not (accepts x.ratio.num x.ratio.den b c)) (λ (a : Acc3Value). a.seen) v
 
+-- a visit with the numbers of a run means the gravity of that run
 pub meaning_is : (v : VisitValue) (job : JobValue) → v ≡ record { ratio = job.ratio; eps = job.eps; second = job.moments == 2 } → meaning_of v ≡ gravity_of job
 meaning_is v job e = ap meaning_of e
 
 -- one value of the walk for each answer
 module _ {W F : Type 0} (desk : W → Desk) (accs : F → List Acc3Value) (efforts : F → List Effort) (opened : F → List ℕ) (rounds : F → ℕ) (job : JobValue) (set : OrderedValue) (m : VisitOf Acc3Value) (w : World) (mail : Mail) (old new : W)
     (e : m ≡ gravity_of job) (p : w ≡ world_by job set) (q : mail ≡ job.mail) (kept : (desk new).eager ≡ (desk old).eager) where
+  -- what the walk of a run leaves of the wire, and finds, with some use of the wire
   abbrev pub Walked : Result F AllocError → Type 0
   Walked r = (wu : WireUse) × Wired desk old new wu × WalkLeaves job set wu r × IfOk r (λ f. IsWalkOf job set (log_of wu) (accs f) (efforts f) (opened f) (rounds f))
 
+  -- what a walk over ranks finds and leaves is what the walk of the run does
   pub walked : (r : Result F AllocError) → IfOk r (λ f. AreFindsIn m w (accs f) (efforts f) (opened f)) → IfOk r (λ f. rounds f ≡ rounds_in (desk new).log) → Leaves desk m.opens w mail old r new → Walked r
   walked (Ok f) finds n left =
       let run : HasRun (opens_in job) (world_by job set) job.mail (desk new) =

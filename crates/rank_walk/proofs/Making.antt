@@ -60,20 +60,24 @@ module _ {V A : Type 0} (Stands : World → RankState V A → Type 0) where
   abbrev pub AllMade : V → World → List (RankState V A) → Type 0
   AllMade v w rs = (q : ℕ) (r : RankState V A) → slice_get rs q ≡ Some r → IsRankOf Stands v w q r
 
+  -- where there are no ranks, each is made
   pub made-none : (v : V) (w : World) (rs : List (RankState V A)) → rs ≡ [] → AllMade v w rs
   made-none v w rs e q r g = absurd (let n : None ≡ Some r = subst (λ (l : List (RankState V A)). slice_get l q ≡ Some r) e g in cc)
 
+  -- of the ranks so far and the next one each is made
   pub made-more : (v : V) (w : World) (rs ts : List (RankState V A)) (q : ℕ) (r : RankState V A) → AllMade v w rs → length rs ≡ q → ts ≡ rs ++ r ∷ [] → IsRankOf Stands v w q r → AllMade v w ts
   made-more v w rs ts q r all n e m k x g = elim (get-push rs r k x (subst (λ (l : List (RankState V A)). slice_get l k ≡ Some x) e g)) [
     | inl h ↦ all k x h
     | inr h ↦ (let at : q ≡ k = sym n ∙ sym h.0 in subst (λ (y : RankState V A). IsRankOf Stands v w k y) h.1 (subst (λ (j : ℕ). IsRankOf Stands v w j r) at m))
   ]
 
+  -- where all ranks of a world are made, they have done nothing yet
   pub made-new : (v : V) (w : World) (rs : List (RankState V A)) → length rs ≡ w.ranks → AllMade v w rs → AllNew (seats rs)
   made-new v w rs n all q s g =
       let at = rank_at rs q s g in
       let long : w.ranks ≡ length (seats rs) = sym n ∙ sym (seats_len rs) in
       subst (λ (t : Seat). IsNew q (length (seats rs)) t) at.2 (subst (λ (m : ℕ). IsNew q m (seat_of at.0)) long (all q at.0 at.1).new)
 
+  -- where all ranks of a good world are made, they stand together for it
   pub made-together : (v : V) (w : World) (rs : List (RankState V A)) → IsGood w → length rs ≡ w.ranks → AllMade v w rs → Together Stands v w rs
   made-together v w rs g n all = record { good = g; ranks = n; stand = λ q r h. (all q r h).stands; visit = λ q r h. (all q r h).visit }

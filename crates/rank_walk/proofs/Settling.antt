@@ -72,6 +72,7 @@ module _ {A : Type 0} (bodies : List BodyValue) (results : List A) (rows : List 
   not_there e = off (before.differ row place row_in below (e ∙ sym is))
 
   module _ (rows' : List ℕ) (placed' : List A) (r : SwappedAt rows rows' place row) (p : SwappedAt placed placed' place row) (long : length rows' ≡ length rows) (wide : length placed' ≡ length placed) where
+    -- after the swap fewer rows are not at their places
     pub fewer : astray 0 rows' < astray 0 rows
     fewer =
         let middle = set rows place (get_or rows row 0) in
@@ -109,6 +110,7 @@ module _ {A : Type 0} (bodies : List BodyValue) (results : List A) (rows : List 
       ]
     ]
 
+    -- after the swap each result still stands beside its row
     pub swapped : Settling bodies results rows' placed' place
     swapped = record {
       rows_long = long ∙ before.rows_long;

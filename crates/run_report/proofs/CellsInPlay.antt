@@ -58,6 +58,7 @@ met_are opens w k = (
   ]),
 )
 
+-- in a good world the keys of the cells in play ascend strictly
 pub met_ascend : (opens : BodyValue → CellValue → Bool) (w : World) → IsGood w → IsStrictlyIncreasing (met_cells opens w)
 met_ascend opens w g = ascends_strict (met_cells opens w) (ascends_filter (λ c. is_opened opens w c || is_listed w w.ranks c) (cells w.bodies) (cells_ascend w.bodies g.in_order))
 

@@ -33,9 +33,11 @@ module _ (weight : BodyValue → ℕ) (bodies : List BodyValue) (ranks a b : ℕ
   first_same [] = refl
   first_same (x ∷ xs) = refl
 
+  -- the branches have the same keys under two leaf limits
   pub cells_same : branch_cells (split_world weight bodies ranks a) ≡ branch_cells (split_world weight bodies ranks b)
   cells_same = filter_agree (is_listed (split_world weight bodies ranks a) ranks) (is_listed (split_world weight bodies ranks b) ranks) (λ c. listed_same ranks c) (cells bodies)
 
+  -- and the same ranks and records
   pub branches_same : map (branch_of (split_world weight bodies ranks a)) (branch_cells (split_world weight bodies ranks a)) ≡ map (branch_of (split_world weight bodies ranks b)) (branch_cells (split_world weight bodies ranks b))
   branches_same =
       ap (map (branch_of (split_world weight bodies ranks a))) cells_same

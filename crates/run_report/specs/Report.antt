@@ -76,5 +76,6 @@ pub record SampleValue : Type 0 where
 abbrev pub all_opened : ReportValue → ℕ
 all_opened r = sum_by (λ e. e.opened) r.efforts
 
+-- how many cells all ranks need together
 abbrev pub all_asks : ReportValue → ℕ
 all_asks r = sum_by (λ e. e.asks) r.efforts

@@ -47,27 +47,32 @@ pub whole_uncut : (count : Option ℕ) (w len : ℕ) → is_some count ≡ false
 whole_uncut None w len free whole = le-ltb (len / w * w) len (omega arith)
 whole_uncut (Some n) w len free whole = absurd (cc free)
 
+-- without a stated number no byte lies behind the last row
 pub free_within : (count : Option ℕ) (w len : ℕ) → is_some count ≡ false → is_beyond_at count w len ≡ false
 free_within None w len free = refl
 free_within (Some n) w len free = absurd (cc free)
 
 -- ---- the answers at the end
 
+-- where a byte came behind the last stated row, the rows end with bytes too many
 pub ends_beyond : (l : LayoutValue) (bytes : List ℕ) → (reader_behind l bytes).beyond ≡ true → ending l bytes ≡ Err Trailing
 ends_beyond l bytes beyond = rw (beyond_uncut l.count l.width (length bytes) beyond, beyond) refl
 
+-- all stated rows and no byte more end well, with the number of rows given
 pub ends_full : (l : LayoutValue) (bytes : List ℕ) → 1 ≤ l.width → is_full l bytes ≡ true → (reader_behind l bytes).beyond ≡ false → ending l bytes ≡ Ok (reader_behind l bytes).given
 ends_full l bytes some full within =
     let uncut = full_uncut l.count l.width (length bytes) full in
     let exact = full_exact l.count l.width (length bytes) some full within in
     rw (uncut, within, exact) refl
 
+-- while a stated row lacks, the rows end with the next one cut short
 pub ends_counted : (l : LayoutValue) (bytes : List ℕ) → 1 ≤ l.width → is_some l.count ≡ true → is_full l bytes ≡ false → ending l bytes ≡ Err (Truncated (reader_behind l bytes).given)
 ends_counted l bytes some counted lacks =
     let cut = lacks_cut l.count l.width (length bytes) some counted lacks in
     let exact = all_counted l.count l.width (length bytes) lacks in
     rw (cut, exact) refl
 
+-- without a stated number, bytes behind the last whole row are a row that is cut short
 pub ends_part : (l : LayoutValue) (bytes : List ℕ) → is_some l.count ≡ false → is_full l bytes ≡ false → 1 ≤ length (part_behind l bytes) → ending l bytes ≡ Err (Truncated (reader_behind l bytes).given)
 ends_part l bytes free lacks part =
     let held = part_length l bytes in
@@ -75,6 +80,7 @@ ends_part l bytes free lacks part =
     let exact = all_counted l.count l.width (length bytes) lacks in
     rw (cut, exact) refl
 
+-- without a stated number, bytes that end with a row end well, with the rows given
 pub ends_whole : (l : LayoutValue) (bytes : List ℕ) → is_some l.count ≡ false → is_full l bytes ≡ false → length (part_behind l bytes) ≡ 0 → ending l bytes ≡ Ok (reader_behind l bytes).given
 ends_whole l bytes free lacks whole =
     let held = part_length l bytes in

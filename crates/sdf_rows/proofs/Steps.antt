@@ -68,6 +68,7 @@ row_bytes_same l bytes more k there =
     let fits : l.width ≤ length (drop (k * l.width) bytes) = omega arith in
     ap (take l.width) (drop-append-le (k * l.width) bytes more begins) ∙ take-append-le l.width (drop (k * l.width) bytes) more fits
 
+-- the first rows, where they are there, are the same with more bytes
 pub first_rows_same : (l : LayoutValue) (bytes more : List ℕ) (n : ℕ) → n * l.width ≤ length bytes → first_rows l (bytes ++ more) n ≡ first_rows l bytes n
 first_rows_same l bytes more zero there = refl
 first_rows_same l bytes more (suc n) there =
@@ -93,6 +94,7 @@ pub counted_below : (count : Option ℕ) (k : ℕ) → at_most count k ≤ k
 counted_below None k = omega arith
 counted_below (Some n) k = min-le_right n k
 
+-- the rows that count lie within the bytes
 pub counted_lie : (count : Option ℕ) (w len : ℕ) → at_most count (len / w) * w ≤ len
 counted_lie count w len =
     let below = counted_below count (len / w) in
@@ -104,6 +106,7 @@ counted_lie count w len =
 pub number_step : (k m : ℕ) → min (min k m + 1) m ≡ min (k + 1) m
 number_step k m = omega arith
 
+-- what is empty stays so, whether it is left out or not
 pub either_way : (b : Bool) (xs : List ℕ) → xs ≡ [] → (if b then [] else xs) ≡ []
 either_way true xs none = refl
 either_way false xs none = none
@@ -119,6 +122,7 @@ full_step l bytes piece some more full =
     let beyond = all_beyond l.count l.width (length bytes) (length piece) more full in
     rw (sum, full, still, count, beyond) refl
 
+-- behind all stated rows more bytes give no row
 pub full_rows : (l : LayoutValue) (bytes piece : List ℕ) → 1 ≤ l.width → is_full l bytes ≡ true → rows l (bytes ++ piece) ≡ rows l bytes
 full_rows l bytes piece some full =
     let sum = length-append bytes piece in
@@ -141,6 +145,7 @@ kept_step l bytes piece lacks short =
     let joined = drop-append-le (length bytes / l.width * l.width) bytes piece there in
     rw (sum, still, lacks, before, after, same, joined) refl
 
+-- bytes that do not end the row give no row
 pub kept_rows : (l : LayoutValue) (bytes piece : List ℕ) → length (part_behind l bytes) + length piece < l.width → rows l (bytes ++ piece) ≡ rows l bytes
 kept_rows l bytes piece short =
     let sum = length-append bytes piece in
@@ -175,6 +180,7 @@ ended_bytes l bytes piece wanted ends =
     ∙ ap (λ (n : ℕ). take n (part_behind l bytes ++ piece)) (sym ends)
     ∙ take-append-add (part_behind l bytes) piece wanted
 
+-- bytes that end the row give that row behind those before
 pub ended_rows : (l : LayoutValue) (bytes rest : List ℕ) → 1 ≤ l.width → is_full l bytes ≡ false → length (part_behind l bytes) + length rest ≡ l.width → rows l (bytes ++ rest) ≡ rows l bytes ++ row_of l (row_number (length bytes / l.width)) (part_behind l bytes ++ rest) ∷ []
 ended_rows l bytes rest some lacks ends =
     let sum = length-append bytes rest in
@@ -191,6 +197,7 @@ ended_rows l bytes rest some lacks ends =
 pub held_part : (l : LayoutValue) (bytes : List ℕ) → is_full l bytes ≡ false → (reader_behind l bytes).held ≡ part_behind l bytes
 held_part l bytes lacks = rw lacks refl
 
+-- and it has given as many rows as there are whole ones
 pub given_number : (l : LayoutValue) (bytes : List ℕ) → is_full l bytes ≡ false → (reader_behind l bytes).given ≡ row_number (length bytes / l.width)
 given_number l bytes lacks = ap row_number (all_counted l.count l.width (length bytes) lacks)
 

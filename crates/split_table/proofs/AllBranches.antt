@@ -57,6 +57,7 @@ branch_in_cells w q c g b =
     filter_has (is_listed w w.ranks) (cells w.bodies) c ((cells-are w.bodies c).1 (b.cell, b.some))
     (rank_found w w.ranks q c (branch_rank w q c g b) (test_of_branch w q c b))
 
+-- a cell among the branches of all ranks is a branch of some rank
 pub cell_is_branch : (w : World) (c : ℕ) → Contains (branch_cells w) c → (q : ℕ) × IsBranch w q c
 cell_is_branch w c m =
     let f = has_filter (is_listed w w.ranks) (cells w.bodies) c m in

@@ -43,10 +43,12 @@ piece_light w q g =
 key_is : (k : ℕ) (b : BodyValue) → k ≡ key_of_body b → IsBodyKey k
 key_is k b e = subst (λ (z : ℕ). HasLevel z 21) (sym e) (body_level b)
 
+-- the left neighbour of a rank, where there is one, is a body key
 pub left_is_key : (w : World) (q : ℕ) (left : Option ℕ) → left ≡ left_of w q → IfSome left IsBodyKey
 left_is_key w q None e = tt
 left_is_key w q (Some k) e = let b = left_body w q k (sym e) in key_is k b.0 b.3
 
+-- the right neighbour of a rank, where there is one, is a body key
 pub right_is_key : (w : World) (q : ℕ) (right : Option ℕ) → right ≡ right_of w q → IfSome right IsBodyKey
 right_is_key w q None e = tt
 right_is_key w q (Some k) e = let b = right_body w q k (sym e) in key_is k b.0 b.3
@@ -60,6 +62,7 @@ items-suc : {X : Type 0} (f : ℕ → X) (n : ℕ) → map f (numbers_below (suc
 unfolding numbers_below
 items-suc f n = map-append f (numbers_below n) (n ∷ [])
 
+-- the items of the ranks so far with that of the next rank are those of one rank more
 pub items-next : {X : Type 0} (f : ℕ → X) (n : ℕ) (x : X) (now new : List X) → new ≡ now ++ x ∷ [] → now ≡ map f (numbers_below n) → x ≡ f n → new ≡ map f (numbers_below (n + 1))
 items-next {X = X} f n x now new added before at =
     added

@@ -33,6 +33,7 @@ abbrev pub AllFrom : (BodyValue → ℕ) → ℕ → List BodyValue → Type 0
 AllFrom f k [] = Unit {0}
 AllFrom f k (x ∷ xs) = (k ≤ f x) × AllFrom f k xs
 
+-- each number of the list is at most any that stands behind it
 abbrev pub Climbs : (BodyValue → ℕ) → List BodyValue → Type 0
 Climbs f [] = Unit {0}
 Climbs f (x ∷ xs) = AllFrom f (f x) xs × Climbs f xs
@@ -133,6 +134,7 @@ lower-next f q (x ∷ xs) = elim (cases_lt (f x) q) [
   ]
 ]
 
+-- none of a list has a number below 0
 pub lower-none : (f : BodyValue → ℕ) (xs : List BodyValue) → lower f 0 xs ≡ 0
 lower-none f [] = refl
 lower-none f (x ∷ xs) = lower-out f 0 x xs (omega arith) ∙ lower-none f xs
@@ -150,6 +152,7 @@ ranks_rise : (weight : BodyValue → ℕ) (bodies : List BodyValue) (ranks : ℕ
 ranks_rise weight bodies ranks [] h = tt
 ranks_rise weight bodies ranks (x ∷ xs) h = (ranks_from weight bodies ranks (key_of_body x) xs h.0, ranks_rise weight bodies ranks xs h.1)
 
+-- in a list in key order the ranks never fall
 pub ranks_climb : (bodies : List BodyValue) (weights : List ℕ) (ranks : ℕ) → IsInOrder bodies → Climbs (λ b. rank_of (world_by bodies weights ranks) b) bodies
 ranks_climb bodies weights ranks o = ranks_rise (weight_in weights) bodies ranks bodies (rising_in_order bodies o)
 
@@ -160,6 +163,7 @@ pieces_join set ranks one = record {
   last = lower-all (λ b. rank_of (world_of set ranks) b) ranks set.bodies (λ b. split_below (weight_in set.weights) set.bodies ranks (key_of_body b) one);
 }
 
+-- a set in order that is split is a good world, with any leaf limit
 pub pieces_make_a_world : PiecesMakeAWorld
 pieces_make_a_world set ranks leaf h one =
     split_good (weight_in set.weights) set.bodies ranks leaf one h.sound h.in_order h.few

@@ -59,8 +59,10 @@ unfolding least
 none-least [] h = refl
 none-least (x ∷ xs) h = absurd (omega (arith, h))
 
+-- an empty list has no greatest key
 pub no-greatest : (xs : List BodyValue) → length xs ≡ 0 → None ≡ greatest (map key_of_body xs)
 no-greatest xs h = none-greatest xs h
 
+-- an empty list has no least key
 pub no-least : (xs : List BodyValue) → length xs ≡ 0 → None ≡ least (map key_of_body xs)
 no-least xs h = none-least xs h

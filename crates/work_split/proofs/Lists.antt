@@ -13,6 +13,7 @@ use Rattle.work_split.specs.Values.{PiecesValue}
 use Rattle.work_split.specs.Splits.{world_of, start, weight_of, pieces_of, IsRun, AreCounts, AreWeights}
 use Rattle.work_split.proofs.Cuts.{lower-next, front-lower, middle-lower, back-lower, ranks_climb}
 
+-- there are n numbers below n
 pub length-below : (n : ℕ) → length (numbers_below n) ≡ n
 unfolding numbers_below
 length-below zero = refl
@@ -30,13 +31,16 @@ below-at (suc n) q h = elim (cases_lt q n) [
 pub of-rank : (f : ℕ → ℕ) (n q : ℕ) → q < n → get_or (map f (numbers_below n)) q 0 ≡ f q
 of-rank f n q h = get_or-map f (numbers_below n) q 0 0 (omega (arith, h, length-below n)) ∙ ap f (below-at n q h)
 
+-- a list made of n ranks has length n
 pub length-of-ranks : (f : ℕ → ℕ) (n : ℕ) → length (map f (numbers_below n)) ≡ n
 length-of-ranks f n = length-map (numbers_below n) f ∙ length-below n
 
+-- a list made of one rank more has the new rank's at its end
 pub next-rank : (f : ℕ → ℕ) (n : ℕ) → map f (numbers_below (suc n)) ≡ map f (numbers_below n) ++ f n ∷ []
 unfolding numbers_below
 next-rank f n = map-append f (numbers_below n) (n ∷ [])
 
+-- a list made of one rank has that of rank 0 alone
 pub none-yet : (f : ℕ → ℕ) → map f (numbers_below 1) ≡ f 0 ∷ []
 unfolding numbers_below
 none-yet f = refl
@@ -59,6 +63,7 @@ next-start set ranks bodies weights counts q at n e f h at_is start_is =
     let b = subst (λ (ws : List ℕ). AreCounts set.bodies ws ranks set.bodies counts) f a in
     omega (arith, b.counts_are q, at_is, start_is, lower-next (λ b. rank_of (world_of set ranks) b) q set.bodies)
 
+-- no piece starts behind the end of the list
 pub start-within : (set : OrderedValue) (ranks q : ℕ) → start (world_of set ranks) q ≤ length set.bodies
 start-within set ranks q = count_by-le-length (λ b. ltb (rank_of (world_of set ranks) b) q) set.bodies
 
@@ -81,9 +86,11 @@ run_of set ranks q from to h e f =
       within = omega (arith, f, start-within set ranks (suc q));
     }
 
+-- pieces with these starts and these weights
 abbrev pub of_lists : List ℕ → List ℕ → PiecesValue
 of_lists xs ys = record { starts = xs; weights = ys }
 
+-- the starts and the weights of all ranks make the pieces of the set
 pub pieces-are : (set : OrderedValue) (ranks : ℕ) (starts weights : List ℕ) → starts ≡ map (start (world_of set ranks)) (numbers_below (suc ranks)) → weights ≡ map (weight_of set ranks) (numbers_below ranks) → of_lists starts weights ≡ pieces_of set ranks
 pieces-are set ranks starts weights e f =
     ap (λ (xs : List ℕ). of_lists xs weights) e ∙ ap (λ (ys : List ℕ). of_lists (map (start (world_of set ranks)) (numbers_below (suc ranks))) ys) f
@@ -95,6 +102,7 @@ starts-say set p ranks q e h = (
   ap (λ (z : PiecesValue). get_or z.starts (q + 1) 0) e ∙ (of-rank (start (world_of set ranks)) (suc ranks) (q + 1) (omega (arith, h)) ∙ ap (start (world_of set ranks)) (add-one q)),
 )
 
+-- the weight that the pieces keep of a rank is that of its bodies
 pub weight-says : (set : OrderedValue) (p : PiecesValue) (ranks q : ℕ) → p ≡ pieces_of set ranks → q < ranks → get_or p.weights q 0 ≡ weight_of set ranks q
 weight-says set p ranks q e h = ap (λ (z : PiecesValue). get_or z.weights q 0) e ∙ of-rank (weight_of set ranks) ranks q h
 
@@ -104,6 +112,7 @@ left-front set ranks q from h e =
     ap (λ (xs : List BodyValue). greatest (map key_of_body xs))
     (ap (λ (i : ℕ). take i set.bodies) e ∙ sym (front-lower (λ b. rank_of (world_of set ranks) b) q set.bodies (ranks_climb set.bodies set.weights ranks h.in_order)))
 
+-- the least key from a rank's end on is its right neighbour
 pub right-back : (set : OrderedValue) (ranks q to : ℕ) → IsOrderedSet set → to ≡ start (world_of set ranks) (suc q) → least (map key_of_body (drop to set.bodies)) ≡ right_of (world_of set ranks) q
 right-back set ranks q to h e =
     ap (λ (xs : List BodyValue). least (map key_of_body xs))

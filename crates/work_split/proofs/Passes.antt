@@ -22,6 +22,7 @@ ones (x ∷ xs) = sum_by-cons (λ (b : BodyValue). 1) x xs ∙ omega (arith, one
 abbrev counted_if : Bool → (BodyValue → ℕ) → BodyValue → ℕ
 counted_if t w b = cond t 1 (w b)
 
+-- the sum of the weights, or the number of bodies where that is 0, is the sum of those that count
 pub whole-is : (w : BodyValue → ℕ) (bodies : List BodyValue) (all whole : ℕ) → all ≡ sum_by w bodies → (all ≡ 0 → whole ≡ length bodies) → ((all ≡ 0 → ⊥) → whole ≡ all) → whole ≡ sum_by (counted w bodies) bodies
 whole-is w bodies all whole e none some = elim (cases_eq (sum_by w bodies) 0) [
   | inl z ↦
@@ -67,6 +68,7 @@ drop_suc k (suc i) (x ∷ xs) n = drop_suc k i xs n
 drop_next : (k i : ℕ) (xs : List BodyValue) → NoneBelow k (drop i xs) → NoneBelow k (drop (i + 1) xs)
 drop_next k i xs n = rw (add-one i) (drop_suc k i xs n)
 
+-- behind a body of a list in key order no key is below its own
 pub ahead-next : (i : ℕ) (xs : List BodyValue) (x : BodyValue) → IsInOrder xs → i < length xs → x ≡ get_or xs i x → NoneBelow (key_of_body x) (drop (i + 1) xs)
 ahead-next i xs x o h e = drop_next (key_of_body x) i xs (from_here i xs x (rising_in_order xs o) h e)
 
@@ -93,6 +95,7 @@ rank-next w bodies ranks whole before rank j k i x o h at key other ahead passed
     let c : before ≡ weight_below (counted w bodies) bodies k = b ∙ ap (λ (n : ℕ). weight_below (counted w bodies) bodies n) key in
     e ∙ (ap (λ (n : ℕ). min (ranks - 1) (n * ranks / whole)) c ∙ ap (λ (n : ℕ). min (ranks - 1) (weight_below (counted w bodies) bodies k * ranks / n)) all)
 
+-- key 0 is of rank 0
 pub rank-first : (w : BodyValue → ℕ) (bodies : List BodyValue) (ranks : ℕ) → 0 ≡ split_rank w bodies ranks 0
 unfolding split_rank
 rank-first w bodies ranks =
@@ -103,6 +106,7 @@ rank-first w bodies ranks =
     from_zero [] = tt
     from_zero (x ∷ xs) = (omega arith, from_zero xs)
 
+-- no key is below 0
 pub ahead-first : (xs : List BodyValue) → NoneBelow 0 xs
 ahead-first [] = tt
 ahead-first (x ∷ xs) = (omega arith, ahead-first xs)
@@ -121,6 +125,7 @@ kept-no p ys x t = rw t (append-[] ys)
     append-[] [] = refl
     append-[] (z ∷ zs) = ap (λ (us : List BodyValue). z ∷ us) (append-[] zs)
 
+-- a body added to the entry of its rank makes the table that of one body more
 pub table-next : (f : BodyValue → ℕ) (m : List BodyValue → ℕ) (n : ℕ) (xs : List BodyValue) (i : ℕ) (x : BodyValue) (cs : List ℕ) (rank v : ℕ) → i < length xs → x ≡ get_or xs i x → ((ys : List BodyValue) → m (ys ++ x ∷ []) ≡ m ys + n) → rank ≡ f x → rank < length cs → v ≡ get_or cs rank 0 + n → ((q : ℕ) → get_or cs q 0 ≡ m (filter (λ b. eqb (f b) q) (take i xs))) → (q : ℕ) → get_or (slice_set cs rank v) q 0 ≡ m (filter (λ b. eqb (f b) q) (take (i + 1) xs))
 table-next f m n xs i x cs rank v h at more is inside e old q = elim (cases_eq q rank) [
   | inl s ↦
@@ -138,12 +143,14 @@ table-next f m n xs i x cs rank v h at more is inside e old q = elim (cases_eq q
       ∙ (old q ∙ ap m (sym (kept-in (λ b. eqb (f b) q) xs i x h at ∙ kept-no (λ b. eqb (f b) q) (filter (λ b. eqb (f b) q) (take i xs)) x t)))
 ]
 
+-- with one added at the rank of the next body the counts are those of one body more
 pub counts-next : (bodies : List BodyValue) (weights : List ℕ) (ranks i : ℕ) (x : BodyValue) (cs : List ℕ) (rank v : ℕ) → i < length bodies → x ≡ get_or bodies i x → rank ≡ rank_of (world_by bodies weights ranks) x → rank < ranks → v ≡ get_or cs rank 0 + 1 → AreCounts bodies weights ranks (take i bodies) cs → AreCounts bodies weights ranks (take (i + 1) bodies) (slice_set cs rank v)
 counts-next bodies weights ranks i x cs rank v h at is inside e old = record {
   each = length-set cs rank v ∙ old.each;
   counts_are = table-next (λ b. rank_of (world_by bodies weights ranks) b) (λ ys. length ys) 1 bodies i x cs rank v h at (λ ys. length-append ys (x ∷ [])) is (omega (arith, inside, old.each)) e old.counts_are;
 }
 
+-- with its weight added at the rank of the next body the weights are those of one body more
 pub sums-next : (bodies : List BodyValue) (weights : List ℕ) (ranks i : ℕ) (x : BodyValue) (cs : List ℕ) (rank v : ℕ) → i < length bodies → x ≡ get_or bodies i x → rank ≡ rank_of (world_by bodies weights ranks) x → rank < ranks → v ≡ get_or cs rank 0 + counted (weight_in weights) bodies x → AreWeights bodies weights ranks (take i bodies) cs → AreWeights bodies weights ranks (take (i + 1) bodies) (slice_set cs rank v)
 sums-next bodies weights ranks i x cs rank v h at is inside e old = record {
   each = length-set cs rank v ∙ old.each;
@@ -156,11 +163,13 @@ count-within bodies weights ranks q xs cs h =
     let p = λ (b : BodyValue). eqb (rank_of (world_by bodies weights ranks) b) q in
     omega (arith, h.counts_are q, length-filter p xs, count_by-le-length p xs)
 
+-- no rank's weight is above that of all bodies of the list
 pub sum-within : (bodies : List BodyValue) (weights : List ℕ) (ranks q : ℕ) (xs : List BodyValue) (cs : List ℕ) → AreWeights bodies weights ranks xs cs → get_or cs q 0 ≤ sum_by (counted (weight_in weights) bodies) xs
 sum-within bodies weights ranks q xs cs h =
     let p = λ (b : BodyValue). eqb (rank_of (world_by bodies weights ranks) b) q in
     omega (arith, h.sums_are q, sum_filter_le (counted (weight_in weights) bodies) p xs)
 
+-- the front of a list is no longer than the list
 pub take-short : (i : ℕ) (xs : List BodyValue) → length (take i xs) ≤ length xs
 take-short zero xs = omega arith
 take-short (suc i) [] = omega arith
@@ -175,12 +184,14 @@ all-zero zero q = refl
 all-zero (suc n) zero = refl
 all-zero (suc n) (suc q) = all-zero n q
 
+-- zeros are the counts of no bodies
 pub counts-first : (bodies : List BodyValue) (weights : List ℕ) (ranks : ℕ) (cs : List ℕ) → cs ≡ replicate ranks 0 → AreCounts bodies weights ranks [] cs
 counts-first bodies weights ranks cs e = record {
   each = ap (λ (xs : List ℕ). length xs) e ∙ length-replicate ranks 0;
   counts_are = λ q. ap (λ (xs : List ℕ). get_or xs q 0) e ∙ all-zero ranks q;
 }
 
+-- zeros are the weights of no bodies
 pub sums-first : (bodies : List BodyValue) (weights : List ℕ) (ranks : ℕ) (cs : List ℕ) → cs ≡ replicate ranks 0 → AreWeights bodies weights ranks [] cs
 sums-first bodies weights ranks cs e = record {
   each = ap (λ (xs : List ℕ). length xs) e ∙ length-replicate ranks 0;
@@ -191,6 +202,7 @@ sums-first bodies weights ranks cs e = record {
 pub weight-is : (w : BodyValue → ℕ) (bodies : List BodyValue) (all : ℕ) (x : BodyValue) (n : ℕ) → all ≡ sum_by w bodies → n ≡ (if eqb all 0 then 1 else w x) → n ≡ counted w bodies x
 weight-is w bodies all x n e h = h ∙ ap (λ (z : ℕ). if eqb z 0 then 1 else w x) e
 
+-- the weight of the bodies passed and that of the next are those of one body more
 pub before-next : (w : BodyValue → ℕ) (bodies : List BodyValue) (i before n : ℕ) (x : BodyValue) → i < length bodies → x ≡ get_or bodies i x → n ≡ counted w bodies x → before ≡ sum_by (counted w bodies) (take i bodies) → before + n ≡ sum_by (counted w bodies) (take (i + 1) bodies)
 before-next w bodies i before n x h at e b =
     let step = sum_by_more (counted w bodies) bodies i x h in

@@ -6,14 +6,17 @@ use Rattle.body_file.proofs.Takings.{undecided}
 use Rattle.body_file.proofs.Readings.{end_taken, prompt_more, prompt_now, prompt_begin, nothing_undecided, stopped_by, ended_with, nearer}
 use Rattle.body_file.proofs.read.read_bodies.Goals as goal
 
+-- where the open fails, the source has failed, and the bytes taken decide no fault
 pub returns-then-is_err-clause-answer : goal.returns-then-is_err-clause-answer
 returns-then-is_err-clause-answer g c = (unopened, search rules, prompt_begin unopened refl, (refl, nothing_undecided))
 
+-- where memory lacks for the reader, the source has not failed
 pub returns-in_err-reader-clause-answer : goal.returns-in_err-reader-clause-answer
 returns-in_err-reader-clause-answer g c =
     let p = err_from_is_err_and c.from_residual.result c.from_residual.ensures.1 in
     (unfinished [], search rules, prompt_begin (unfinished []) refl, rw (p.1, p.2) refl)
 
+-- before the first read the source is open and has not failed
 pub pieces-init : goal.pieces-init
 pieces-init g c = record {
   unfailed = search rules;
@@ -24,6 +27,7 @@ pieces-init g c = record {
   taken = ([], c.in_ok-reader.ensures, search rules);
 }
 
+-- where a read fails, the source has failed, and the bytes taken decide no fault
 pub returns-in_default-clause-answer : goal.returns-in_default-clause-answer
 returns-in_default-clause-answer g c =
     let t = c.pieces.invariant.taken in (
@@ -33,6 +37,7 @@ returns-in_default-clause-answer g c =
       (refl, undecided c.pieces.reader t.0 t.1),
     )
 
+-- where a read gives nothing, the answer is the bodies of the file, or why there are none
 pub returns-then-count-eq0-clause-answer : goal.returns-then-count-eq0-clause-answer
 returns-then-count-eq0-clause-answer g c =
     let t = c.pieces.invariant.taken in (
@@ -42,6 +47,7 @@ returns-then-count-eq0-clause-answer g c =
       ended_with t.0 c.finish.result (c.finish.ensures.answer t.0 t.1),
     )
 
+-- where the reader stops at a piece, the bytes taken decide the fault, or memory ran out
 pub returns-in_err-reader-2-clause-answer : goal.returns-in_err-reader-2-clause-answer
 returns-in_err-reader-2-clause-answer g c =
     let t = c.pieces.invariant.taken in
@@ -53,6 +59,7 @@ returns-in_err-reader-2-clause-answer g c =
       rw (p.1, p.2) (stopped_by (unfinished (t.0 ++ piece)) (t.0 ++ piece) _ c.in_err-reader-2.field-0.0 refl refl refl (c.in_err-reader-2.ensures t.0 t.1)),
     )
 
+-- each piece that the reader takes brings the limit nearer
 pub pieces-smaller : goal.pieces-smaller
 pieces-smaller g c =
     let t = c.pieces.invariant.taken in
@@ -60,6 +67,7 @@ pieces-smaller g c =
     nearer c.pieces.reader c.in_ok-reader-2.reader t.0 piece t.1 (c.in_ok-reader-2.ensures t.0 t.1)
     (omega (arith, length-take c.in-Ok.count c.read.new.buf, c.in-Ok.ensures.bound, c.if-count-eq0.false))
 
+-- a piece that the reader takes leaves it with all bytes that the source gave
 pub pieces-preserved : goal.pieces-preserved
 pieces-preserved g c =
     let t = c.pieces.invariant.taken in

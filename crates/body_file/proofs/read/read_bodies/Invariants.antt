@@ -4,6 +4,7 @@ use Rattle.body_file.specs.Files.{read_limit}
 use Rattle.body_file.specs.Reading.{HasTaken, given_to}
 use Rattle.body_file.proofs.read.read_bodies.Given as goal
 
+-- the source is open and has not failed, and the reader was given the bytes that it gave
 abbrev pub invariant-pieces : goal.invariant-pieces
 invariant-pieces g l = record {
   unfailed : g.S.Source.faults l.source ≡ 0;
@@ -14,5 +15,6 @@ invariant-pieces g l = record {
   taken : (bytes : List ℕ) × HasTaken l.reader bytes × Consumes (g.S.Source.file l.fn.source l.name) (g.S.Source.left l.source) bytes;
 }
 
+-- how many bytes the reader is from the limit
 abbrev pub decreases-pieces : goal.decreases-pieces
 decreases-pieces g l = read_limit - given_to l.reader

@@ -1,6 +1,7 @@
 use Rattle.std.proofs.Common.{◌∙◌}
 use Rattle.body_maker.proofs.file.write_row.Goals as goal
 
+-- the bytes written are the row of the place, x, y and z, whole or cut
 pub returns-clause-text : goal.returns-clause-text
 returns-clause-text g c =
     let x = c.copy_from_slice.ensures.after ∙ c.to_le_bytes.ensures in

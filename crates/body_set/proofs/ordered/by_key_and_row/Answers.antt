@@ -7,6 +7,7 @@ use Rattle.body_set.proofs.ordered.by_key_and_row.Goals as goal
 abbrev row_of : BodyValue → ℕ
 row_of b = b.row
 
+-- less exactly where the first body stands before the second, by key and then row
 pub returns : goal.returns
 returns c =
     let a = c.args.a.now in

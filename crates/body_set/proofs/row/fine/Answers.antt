@@ -4,6 +4,7 @@ use Rattle.std.proofs.lemmas.Int.{ints}
 use Rattle.body_set.proofs.Coordinates.{near_is_inside, scaled_small, scaled_is, one_shifted}
 use Rattle.body_set.proofs.row.fine.Goals as goal
 
+-- a coordinate near enough to the corner is in the cube, and has these fine units
 pub returns-then-above-bits-clause-inside : goal.returns-then-above-bits-clause-inside
 returns-then-above-bits-clause-inside c =
     let from_corner : c.args.corner ≤ℤ c.args.at = omega (arith, ints) in
@@ -13,6 +14,7 @@ returns-then-above-bits-clause-inside c =
       scaled_is c.args.bits c.args.corner c.args.at c.abs_diff-above.result c.requires.high distance near,
     )
 
+-- its fine units are below 2^29
 pub returns-then-above-bits-clause-within : goal.returns-then-above-bits-clause-within
 returns-then-above-bits-clause-within c =
     let near : c.abs_diff-above.result < 2 ^ c.args.bits = one_shifted c.args.bits c.abs_diff-above.result c.requires.high c.if-above-bits.true in

@@ -7,6 +7,7 @@ use Rattle.hot_model.specs.Limits.{max_bodies}
 use Rattle.body_set.proofs.FirstFault.{first_by_tests}
 use Rattle.body_set.proofs.row.read_row.Goals as goal
 
+-- where x is the first outside the cube, that is the first fault of the row
 pub returns-in_default-clause-answer : goal.returns-in_default-clause-answer
 returns-in_default-clause-answer c =
     let few : nat_lt c.args.row max_bodies ≡ true = lt-ltb _ _ c.if-row-ge-MAX_BODIES.false in
@@ -15,6 +16,7 @@ returns-in_default-clause-answer c =
     let off_x = rw (to_z-of_z w128 c.cube.inside.x0 x0, to_z-of_z w128 c.args.raw.now.x at_x) at c.in_default.ensures.inside in
     rw (first_by_tests c.args.cube c.args.row c.args.raw.now, few, ← c.cube.view_is, off_x) refl
 
+-- where y is the first outside the cube, that is the first fault of the row
 pub returns-in_default-fine-clause-answer : goal.returns-in_default-fine-clause-answer
 returns-in_default-fine-clause-answer c =
     let few : nat_lt c.args.row max_bodies ≡ true = lt-ltb _ _ c.if-row-ge-MAX_BODIES.false in
@@ -26,6 +28,7 @@ returns-in_default-fine-clause-answer c =
     let off_y = rw (to_z-of_z w128 c.cube.inside.y0 y0, to_z-of_z w128 c.args.raw.now.y at_y) at c.in_default-fine.ensures.inside in
     rw (first_by_tests c.args.cube c.args.row c.args.raw.now, few, ← c.cube.view_is, in_x, off_y) refl
 
+-- where only z is outside the cube, that is the first fault of the row
 pub returns-in_default-fine-2-clause-answer : goal.returns-in_default-fine-2-clause-answer
 returns-in_default-fine-2-clause-answer c =
     let few : nat_lt c.args.row max_bodies ≡ true = lt-ltb _ _ c.if-row-ge-MAX_BODIES.false in
@@ -40,6 +43,7 @@ returns-in_default-fine-2-clause-answer c =
     let off_z = rw (to_z-of_z w128 c.cube.inside.z0 z0, to_z-of_z w128 c.args.raw.now.z at_z) at c.in_default-fine-2.ensures.inside in
     rw (first_by_tests c.args.cube c.args.row c.args.raw.now, few, ← c.cube.view_is, in_x, in_y, off_z) refl
 
+-- a bad mass at a good place is the first fault of the row
 pub returns-in_default-in_range-clause-answer : goal.returns-in_default-in_range-clause-answer
 returns-in_default-in_range-clause-answer c =
     let few : nat_lt c.args.row max_bodies ≡ true = lt-ltb _ _ c.if-row-ge-MAX_BODIES.false in
@@ -56,6 +60,7 @@ returns-in_default-in_range-clause-answer c =
     let off_mass = rw (to_z-of_z w128 c.args.raw.now.mass at_mass) at c.in_default-in_range.ensures.between in
     rw (first_by_tests c.args.cube c.args.row c.args.raw.now, few, ← c.cube.view_is, in_x, in_y, in_z, off_mass) refl
 
+-- a bad work weight alone is the first fault of the row
 pub returns-in_default-in_range-2-clause-answer : goal.returns-in_default-in_range-2-clause-answer
 returns-in_default-in_range-2-clause-answer c =
     let few : nat_lt c.args.row max_bodies ≡ true = lt-ltb _ _ c.if-row-ge-MAX_BODIES.false in
@@ -74,10 +79,12 @@ returns-in_default-in_range-2-clause-answer c =
     let off_work = rw (to_z-of_z w128 c.args.raw.now.work at_work) at c.in_default-in_range-2.ensures.between in
     rw (first_by_tests c.args.cube c.args.row c.args.raw.now, few, ← c.cube.view_is, in_x, in_y, in_z, in_mass, off_work) refl
 
+-- coordinates and mass are within the limits of a body
 pub unwrap-body-requires : goal.unwrap-body-requires
 unwrap-body-requires c =
     c.body_of.ensures.in_range.1 (c.in-Some.ensures.within, c.in-Some-fine.ensures.within, c.in-Some-fine-2.ensures.within, c.in-Some-in_range.ensures.within.0, c.in-Some-in_range.ensures.within.1)
 
+-- where all tests pass there is no fault, and body and weight are those of the row
 pub returns-clause-answer : goal.returns-clause-answer
 returns-clause-answer c =
     let few : nat_lt c.args.row max_bodies ≡ true = lt-ltb _ _ c.if-row-ge-MAX_BODIES.false in

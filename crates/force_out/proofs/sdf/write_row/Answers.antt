@@ -16,6 +16,7 @@ row_is n f n0 n1 x0 x1 y0 y1 z0 z1 row a b c d e =
     let words : n0 ∷ n1 ∷ x0 ∷ x1 ∷ y0 ∷ y1 ∷ z0 ∷ z1 ∷ [] ≡ flat_map columns (body_values (n, f)) = cc in
     e ∙ ap (flat_map (little_bytes 8)) words
 
+-- the bytes written are the row of the body, its ident and the force on it, whole or cut
 pub returns-clause-row : goal.returns-clause-row
 returns-clause-row g c =
     let n : to_z w128 (of_z w128 c.args.ident) ≡ c.args.ident = search rules in

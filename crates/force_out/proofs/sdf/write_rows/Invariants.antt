@@ -3,6 +3,7 @@ use Rattle.std.specs.Io.KnownBytes.{Appends}
 use Rattle.force_out.specs.ForcesSdf.{body_rows}
 use Rattle.force_out.proofs.sdf.write_rows.Given as goal
 
+-- the output has not failed, and has gained the rows of the bodies so far
 abbrev pub invariant-loop-i : goal.invariant-loop-i
 invariant-loop-i g l = record {
   unfailed : g.O.Sink.faults l.out ≡ g.O.Sink.faults l.initial.out;

@@ -7,6 +7,7 @@ use Rattle.force_out.specs.ForcesText.{body_line}
 use Rattle.force_out.proofs.Lines.{texts-take, cut_in_text}
 use Rattle.force_out.proofs.text.all_lines.Goals as goal
 
+-- where a body's line is cut, so are the lines of all bodies
 pub returns-in_err-body_line-clause-text : goal.returns-in_err-body_line-clause-text
 returns-in_err-body_line-clause-text g c =
     let p = err_from_is_err_and c.from_residual.result c.from_residual.ensures.1 in
@@ -15,6 +16,7 @@ returns-in_err-body_line-clause-text g c =
     let read : to_z w128 (of_z w128 (get_or c.args.idents.now i (pos 0))) ≡ get_or c.args.idents.now i (pos 0) = search rules in
     rw p.1 (cut_in_text body_line c.args.idents.now c.args.forces.now i _ c.index-forces-i.result _ _ _ within c.loop-i-test.true read c.index-forces-i.is c.loop-i.invariant.so_far c.in_err-body_line.ensures.text)
 
+-- with the next line the lines of one body more are written
 pub loop-i-preserved : goal.loop-i-preserved
 loop-i-preserved g c = record {
   unfailed = search rules;

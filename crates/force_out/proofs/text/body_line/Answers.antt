@@ -5,6 +5,7 @@ use Rattle.hot_io.specs.Writing.{Writes}
 use Rattle.force_out.proofs.Lines.{line_joined}
 use Rattle.force_out.proofs.text.body_line.Goals as goal
 
+-- the line has the ident and the three components of the force, whole or cut
 pub returns-clause-text : goal.returns-clause-text
 returns-clause-text g c =
     let name : to_z w128 (of_z w128 c.args.ident) ≡ c.args.ident = search rules in

@@ -5,6 +5,7 @@ use Rattle.rank_walk.specs.Places.{ArePlaced}
 use Rattle.hot.proofs.Walks.{walk_here, ran, ran_err}
 use Rattle.hot.proofs.compute.compute_run.Goals as goal
 
+-- what is reported was found by a walk that left the log of the wire
 pub report_if-requires : goal.report_if-requires
 report_if-requires g c = record {
   walked =
@@ -12,6 +13,7 @@ report_if-requires g c = record {
       walk_here g.M.Wire.desk (job_value c.args.job.now) c.args.set c.in_ok-ordered.ordered c.args.shows c.args.wire.now c.walk_job.new.wire c.in_ok-found.found.accs.items c.in_ok-found.found.efforts.items c.in_ok-found.found.opened.items c.in_ok-found.found.rounds c.in_ok-ordered.ensures.ordered c.in_ok-found.found w.0 w.1 w.2 w.3;
 }
 
+-- where memory lacks for the forces, the wire was not used, or is left as by a begun run
 pub returns-in_err-forces : goal.returns-in_err-forces
 returns-in_err-forces g c = record {
   ran =
@@ -19,6 +21,7 @@ returns-in_err-forces g c = record {
       ran_err g.M.Wire.desk (job_value c.args.job.now) c.args.set c.in_ok-ordered.ordered c.args.shows c.args.wire.now c.walk_job.new.wire c.in_ok-found.found.accs.items c.in_ok-found.found.efforts.items c.in_ok-found.found.opened.items c.in_ok-found.found.rounds c.in_ok-ordered.ensures.ordered c.in_ok-found.found c.from_residual-in_err-forces.result _ w.0 c.from_residual-in_err-forces.ensures.0 w.1 w.2;
 }
 
+-- bodies, forces and report are those of the run, which came to its end on the wire
 pub returns : goal.returns
 returns g c = record {
   ran =

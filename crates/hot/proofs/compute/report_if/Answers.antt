@@ -5,6 +5,7 @@ use Rattle.hot.specs.Prepared.{gravity_of}
 use Rattle.hot.proofs.Walks.{reported, finds_at, world_is}
 use Rattle.hot.proofs.compute.report_if.Goals as goal
 
+-- what is reported was found in the world of the sharing
 pub of-requires : goal.of-requires
 of-requires g c = record {
   found = (
@@ -14,6 +15,7 @@ of-requires g c = record {
   );
 }
 
+-- a report that is asked for is that of the run, by the log of the wire
 pub returns : goal.returns
 returns g c = record {
   report =

@@ -3,10 +3,12 @@ use Rattle.hot_words.proofs.PlaceSteps.{stands-behind, stands-else, fault-found,
 use Rattle.hot_words.proofs.faults.first_word_fault.Goals as goal
 use Rattle.hot_words.proofs.faults.first_word_fault.Goals.{then-wants_value, else-wants_value}
 
+-- a fault at a place with none before it is the first fault of the words
 pub returns-in-Some-clause-first : goal.returns-in-Some-clause-first
 returns-in-Some-clause-first c =
     fault-found c.args.name c.args.words.now c.loop-place.place c.in-Some.code (omega arith) c.in-Some.ensures c.loop-place.invariant.rest
 
+-- a place without a fault is passed
 pub loop-place-preserved : goal.loop-place-preserved
 loop-place-preserved c =
     let name = c.args.name in

@@ -4,6 +4,7 @@ use Rattle.hot_words.proofs.PlaceSteps.{stands-behind, stands-else, holds-other,
 use Rattle.hot_words.proofs.places.find_option.Goals as goal
 use Rattle.hot_words.proofs.places.find_option.Goals.{then-wants_value, else-wants_value, else-eq-via-then-eq+else-not-is_value, else-eq-via-else-eq}
 
+-- a place that does not hold the option is passed
 pub loop-place-preserved : goal.loop-place-preserved
 loop-place-preserved c =
     let name = c.args.name in

@@ -3,6 +3,7 @@ use Rattle.rank_core.specs.Seats.{seat_of}
 use Rattle.rank_walk.proofs.Finds.{finds-more}
 use Rattle.rank_walk.proofs.gather.add_rank.Goals as goal
 
+-- what a rank found is put behind what the ranks below it found
 pub returns-clause-added : goal.returns-clause-added
 returns-clause-added g c =
     let r = c.in_ok-result.result in

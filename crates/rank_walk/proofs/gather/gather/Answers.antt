@@ -6,6 +6,7 @@ use Rattle.rank_walk.proofs.Finds.{finds-none, finds-carried, finds-all, here, o
 use Rattle.rank_walk.proofs.Finishes.{finished_at}
 use Rattle.rank_walk.proofs.gather.gather.Goals as goal
 
+-- at first there is what no ranks find
 pub loop-rank-init : goal.loop-rank-init
 loop-rank-init g c = record {
   all = c.into_iter-rank-iterator.ensures.into_iter_gives.0;
@@ -13,6 +14,7 @@ loop-rank-init g c = record {
   rounds = refl;
 }
 
+-- each rank that is added is finished
 pub add_rank-requires-clause-finished : goal.add_rank-requires-clause-finished
 add_rank-requires-clause-finished g c κs within =
     let at : slice_get c.args.ranks.items (length c.loop-rank.yielded) ≡ Some c.in-Some.rank =
@@ -20,6 +22,7 @@ add_rank-requires-clause-finished g c κs within =
     finished_at g.V.Visit g.V.Acc.Seen c.requires.together.1 c.in-Some.rank (c.requires.together.2.stand (length c.loop-rank.yielded) c.in-Some.rank at)
     (c.requires.finished (length c.loop-rank.yielded) (seat_of c.in-Some.rank) (seat_at c.args.ranks.items (length c.loop-rank.yielded) c.in-Some.rank at))
 
+-- with what the next rank found there is what one rank more finds
 pub loop-rank-preserved : goal.loop-rank-preserved
 loop-rank-preserved g c =
     let s = c.in-Some.ensures.steps.0 in
@@ -33,6 +36,7 @@ loop-rank-preserved g c =
       rounds = c.in_ok-add_rank.ensures.rounds ∙ c.loop-rank.invariant.rounds;
     }
 
+-- at the end there is what all ranks find
 pub returns-clause-finds : goal.returns-clause-finds
 returns-clause-finds g c =
     let s = c.in-None.ensures.steps.0 in

@@ -5,6 +5,7 @@ use Rattle.runs.specs.Running.{Together}
 use Rattle.rank_walk.specs.Efforts.{AreFindsTo}
 use Rattle.rank_walk.proofs.gather.gather.Given as goal
 
+-- what was found is what the ranks so far find, in each world for which all stand together
 abbrev pub invariant-loop-rank : goal.invariant-loop-rank
 invariant-loop-rank g l = record {
   all : l.yielded ++ l.rank-iterator.rest.items ≡ l.fn.ranks.items;

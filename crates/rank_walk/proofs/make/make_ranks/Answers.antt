@@ -4,6 +4,7 @@ use Rattle.rank_walk.specs.Sharings.{shared}
 use Rattle.rank_walk.proofs.Making.{made-none, made-more, made-new, made-together}
 use Rattle.rank_walk.proofs.make.make_ranks.Goals as goal
 
+-- at first no rank is made
 pub loop-q-init : goal.loop-q-init
 loop-q-init g c = record {
   long = ap length c.in_ok-ranks.ensures.items;
@@ -11,6 +12,7 @@ loop-q-init g c = record {
   good = λ h. absurd (omega (arith, h));
 }
 
+-- with the next rank one rank more is made
 pub loop-q-preserved : goal.loop-q-preserved
 loop-q-preserved g c = record {
   long = (let e = ap length c.in_ok-push.ensures.items in let n = length-append c.loop-q.ranks.items (c.in_ok-make_rank.field-0 ∷ []) in let l = c.loop-q.invariant.long in omega arith);
@@ -18,11 +20,13 @@ loop-q-preserved g c = record {
   good = λ h. c.in_ok-make_rank.ensures.good;
 }
 
+-- all ranks that were made have done nothing yet
 pub returns-clause-new : goal.returns-clause-new
 returns-clause-new g c =
     let l = c.loop-q.invariant.long in
     made-new _ c.args.visit (shared c.args.set.now c.args.sharing) c.loop-q.ranks.items (omega arith) c.loop-q.invariant.made
 
+-- all ranks that were made stand together for the world of the set
 pub returns-clause-together : goal.returns-clause-together
 returns-clause-together g c =
     let l = c.loop-q.invariant.long in

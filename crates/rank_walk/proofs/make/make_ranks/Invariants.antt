@@ -5,6 +5,7 @@ use Rattle.rank_walk.specs.Sharings.{shared}
 use Rattle.rank_walk.proofs.Making.{AllMade}
 use Rattle.rank_walk.proofs.make.make_ranks.Given as goal
 
+-- the ranks so far are made for the world of the set, and after one of them it is good
 abbrev pub invariant-loop-q : goal.invariant-loop-q
 invariant-loop-q g l = record {
   long : length l.ranks.items ≡ l.q;

@@ -3,6 +3,7 @@ use Rattle.std.proofs.lemmas.List.{get_or_default}
 use Rattle.rank_walk.proofs.Settling.{Settling, astray, begins, settles, swapped, fewer}
 use Rattle.rank_walk.proofs.place.place_by_row.Goals as goal
 
+-- before the first swap each result stands beside its row
 pub loop-place-init : goal.loop-place-init
 loop-place-init g c = begins c.args.bodies.now c.args.results.items c.args.results.items c.in_ok-rows.rows.items c.requires.paired c.requires.rows_differ c.requires.rows_in c.in_ok-rows.ensures.rows refl
 
@@ -28,11 +29,14 @@ module _ (g : _) (c : goal.After-swap-else-row-place g) where
   next : Settling c.args.bodies.now c.args.results.items c.swap.new.self.items c.swap-else-row-place.new.self.items c.loop-place.place
   next = swapped _ _ _ _ _ _ c.loop-place.invariant below row c.if-row-place.false _ _ c.swap.ensures.by_index c.swap-else-row-place.ensures.by_index rows_long placed_long
 
+-- a swap leaves fewer rows that are not at their places
 pub loop-place-smaller : goal.loop-place-smaller
 loop-place-smaller g c = let l = less g c in let r = rows_long g c in omega (arith, l, r)
 
+-- a swap leaves each result beside its row, and what stood at its place there
 pub loop-place-preserved : goal.loop-place-preserved
 loop-place-preserved g c = next g c
 
+-- past the last place each result stands at the row of its body
 pub returns : goal.returns
 returns g c = record { placed = settles c.args.bodies.now c.args.results.items c.loop-place.rows.items c.loop-place.placed.items c.loop-place.place c.loop-place.invariant (let l = c.len.ensures in let t = c.loop-place-test.false in let k = c.loop-place.rows.ok.0 in omega (arith, l, t, k)) }

@@ -5,6 +5,7 @@ use Rattle.hot_model.specs.Trees.{mass_of}
 use Rattle.work_split.proofs.Cuts.{pieces_make_a_world}
 use Rattle.rank_walk.proofs.tests.plain_forces.Goals as goal
 
+-- the bodies of a set have at most the largest mass of all
 pub forces-requires-clause-light : goal.forces-requires-clause-light
 forces-requires-clause-light g c =
     let light = (pieces_make_a_world c.args.set.now 1 1 c.bodies.ensures.facts (omega arith)).light in

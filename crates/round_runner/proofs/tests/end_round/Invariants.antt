@@ -3,10 +3,12 @@ use Rattle.round_runner.specs.Desk.{letters_in, rounds_in}
 use Rattle.round_runner.specs.declared.wire.Turn.TheVariants as turns
 use Rattle.round_runner.proofs.tests.end_round.Given as goal
 
+-- the turn is free, and the log has no more rounds than letters
 abbrev pub invariant-loop-letter : goal.invariant-loop-letter
 invariant-loop-letter g l =
     ((g.W.Wire.desk l.wire).turn ≡ turns.Free)
     × (rounds_in (g.W.Wire.desk l.wire).log ≤ letters_in (g.W.Wire.desk l.wire).log)
 
+-- how many letters are pending
 abbrev pub decreases-loop-letter : goal.decreases-loop-letter
 decreases-loop-letter g l = length (g.W.Wire.desk l.wire).pending

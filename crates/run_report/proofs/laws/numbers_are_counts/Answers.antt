@@ -7,6 +7,7 @@ use Rattle.run_report.proofs.CellsInPlay.{met_are, met_ascend}
 use Rattle.run_report.proofs.Openings.{opens_once}
 use Rattle.run_report.proofs.laws.numbers_are_counts.Goals as goal
 
+-- in a good world each number of a report counts what it is called
 pub returns : goal.returns
 returns c = record {
   law = λ opens w g. record {

@@ -6,11 +6,13 @@ use Rattle.rank_walk.specs.declared.gather.Effort.{Effort}
 use Rattle.run_report.specs.Text.{rank_line}
 use Rattle.run_report.proofs.text.rank_lines.Goals as goal
 
+-- where a rank's line is cut, so are the lines of all ranks
 pub returns-in_err-rank_line-clause-text : goal.returns-in_err-rank_line-clause-text
 returns-in_err-rank_line-clause-text g c =
     let p = err_from_is_err_and c.from_residual.result c.from_residual.ensures.1 in
     rw p.1 (cut_in_line rank_line c.args.efforts.now c.loop-effort.effort-index _ _ _ _ c.loop-effort-test.true (get_or_default _ _ _ _ c.loop-effort-test.true) c.loop-effort.invariant.so_far c.in_err-rank_line.ensures.text)
 
+-- with the next line the lines of one rank more are written
 pub loop-effort-preserved : goal.loop-effort-preserved
 loop-effort-preserved g c =
     let none : Effort = record { rank = 0; bodies = 0; opened = 0; asks = 0 } in

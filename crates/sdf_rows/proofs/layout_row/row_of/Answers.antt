@@ -15,6 +15,7 @@ fits_128 (negsuc n) h = record { sfits = omega (arith, ints, h.0) }
 whole : (r z : ℤ) → Is64Bits r → r ≡ z → to_z w128 (of_z w128 r) ≡ z
 whole r z h e = stored r z (fits_128 r h) e
 
+-- each number of the row is that of its column, or what stands for one that is absent
 pub returns-clause-value : goal.returns-clause-value
 returns-clause-value c =
     rw (

@@ -4,6 +4,7 @@ use Rattle.work_split.specs.Splits.{world_of}
 use Rattle.split_table.specs.Steps.{AreLists}
 use Rattle.split_table.proofs.branches.branches_of_ranks.Goals as goal
 
+-- the branches are those of the set split over the ranks
 pub returns : goal.returns
 returns c =
     let w = world_of c.args.set.now c.args.ranks in

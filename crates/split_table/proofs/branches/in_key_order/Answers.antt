@@ -6,6 +6,7 @@ use Rattle.std.proofs.lemmas.List.Sorted.{sorted_far, IsStrictWeakOrder-by_numbe
 use Rattle.branch_merge.specs.declared.listed.Listed.{Listed}
 use Rattle.split_table.proofs.branches.in_key_order.Goals as goal
 
+-- the sorted records are the same ones, by ascending key
 pub returns : goal.returns
 returns c =
     let key = λ (x : Listed). x.rec.key in

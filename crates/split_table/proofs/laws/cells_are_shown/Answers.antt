@@ -8,6 +8,7 @@ use Rattle.split_table.specs.Table.{branch_cells}
 use Rattle.split_table.proofs.AllBranches.{branch_in_cells, cell_is_branch}
 use Rattle.split_table.proofs.laws.cells_are_shown.Goals as goal
 
+-- listed branches and top cells ascend strictly, and are exactly those of a good world
 pub returns : goal.returns
 returns c = record {
   law = λ w g. record {

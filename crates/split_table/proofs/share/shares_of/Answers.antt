@@ -5,9 +5,11 @@ use Rattle.split_table.specs.Table.{share_of}
 use Rattle.split_table.proofs.Parts.{items-next, items-none, share, share-is}
 use Rattle.split_table.proofs.share.shares_of.Goals as goal
 
+-- at first there is the share of no rank
 pub loop-q-init : goal.loop-q-init
 loop-q-init c = c.in_ok-shares.ensures.items ∙ sym (items-none (share_of c.args.set.now c.args.ranks))
 
+-- with the share of the next rank there are those of one rank more
 pub loop-q-preserved : goal.loop-q-preserved
 loop-q-preserved c =
     let set = c.args.set.now in
@@ -19,6 +21,7 @@ loop-q-preserved c =
     c.bodies_of.ensures.value (c.weight.ensures.piece set same) c.requires.lists c.index-lists-q.is c.len.ensures.length in
     items-next (share_of set ranks) q (share q (length c.bodies_of.result.now) c.weight.result c.len.result) c.loop-q.shares.items c.push.new.self.items c.in_ok-push.ensures.items c.loop-q.invariant one
 
+-- the shares are those of all ranks
 pub returns : goal.returns
 returns c =
     let all : c.loop-q.q ≡ c.args.ranks = omega arith in

@@ -6,6 +6,7 @@ use Rattle.work_split.proofs.Cuts.{lower-none}
 use Rattle.work_split.proofs.Lists.{next-start, start-within, none-yet, next-rank, length-of-ranks, weights-all, pieces-are}
 use Rattle.work_split.proofs.pieces.split.Goals as goal
 
+-- at first there is the start of rank 0, which is 0
 pub loop-count-init : goal.loop-count-init
 loop-count-init c =
     let none : start (world_of c.args.set.now c.args.ranks) 0 ≡ 0 = lower-none (λ b. rank_of (world_of c.args.set.now c.args.ranks) b) c.args.set.now.bodies in
@@ -17,6 +18,7 @@ loop-count-init c =
           ∙ (ap (λ (n : ℕ). n ∷ []) (sym none) ∙ sym (none-yet (start (world_of c.args.set.now c.args.ranks)))));
     }
 
+-- the start of a rank and its count together fit
 pub overflow_add-at : goal.overflow_add-at
 overflow_add-at c =
     let q = c.loop-count.count-index in
@@ -24,6 +26,7 @@ overflow_add-at c =
     c.bodies-bodies.ensures.value c.weights.ensures.value c.in_ok-shares.ensures.counts (ap (λ (xs : List ℕ). get_or xs q 0) c.deref-count-items.ensures.value) c.loop-count.invariant.at in
     omega (arith, next, start-within c.args.set.now c.args.ranks (suc q), c.bodies-bodies.ensures.facts.few)
 
+-- each rank's count added gives the start of the next
 pub loop-count-preserved : goal.loop-count-preserved
 loop-count-preserved c =
     let q = c.loop-count.count-index in
@@ -42,6 +45,7 @@ loop-count-preserved c =
           ∙ (ap (λ (v : ℕ). map f (numbers_below (q + 1)) ++ v ∷ []) next ∙ sym (next-rank f (q + 1)))));
     }
 
+-- there is one start more than there are weights
 pub invariant_of-result : goal.invariant_of-result
 invariant_of-result c =
     let f = start (world_of c.args.set.now c.args.ranks) in
@@ -49,6 +53,7 @@ invariant_of-result c =
     ap (λ (xs : List ℕ). length xs) c.loop-count.invariant.starts
     ∙ (length-of-ranks f (suc c.loop-count.count-index) ∙ omega (arith, all, c.in_ok-shares.ensures.weights.each))
 
+-- starts and weights are those of the set split over the ranks
 pub returns-clause-pieces : goal.returns-clause-pieces
 returns-clause-pieces c =
     let f = start (world_of c.args.set.now c.args.ranks) in

@@ -8,6 +8,7 @@ use Rattle.work_split.proofs.Passes.{rank-first, ahead-first, counts-first, sums
 use Rattle.work_split.proofs.shares.tally.Goals as goal
 use Rattle.work_split.proofs.shares.tally.Goals.{then-b-key, else-b-key, then-all-eq0, else-all-eq0}
 
+-- before the first body counts and weights are those of no bodies
 pub loop-b-init : goal.loop-b-init
 loop-b-init c =
     let counts_are : c.in_ok-counts.counts.items ≡ replicate c.args.ranks 0 = c.in_ok-counts.ensures.items_if_clones_equal (λ y h. search rules) in
@@ -23,6 +24,7 @@ loop-b-init c =
       sums = sums-first c.args.bodies.now c.args.weights.now c.args.ranks c.in_ok-sums.sums.items sums_are;
     }
 
+-- a rank's count with one body more fits
 pub overflow_add-index_mut : goal.overflow_add-index_mut
 overflow_add-index_mut c =
     let i = c.loop-b.b-index in
@@ -33,6 +35,7 @@ overflow_add-index_mut c =
     let few = count-within c.args.bodies.now c.args.weights.now c.args.ranks rank (take i c.args.bodies.now) c.loop-b.counts.items c.loop-b.invariant.counts in
     omega (arith, now, few, take-short i c.args.bodies.now, c.requires.few)
 
+-- a rank's weight with that of one body more fits
 pub overflow_add-index_mut-in-loop-b : goal.overflow_add-index_mut-in-loop-b
 overflow_add-index_mut-in-loop-b c =
     let i = c.loop-b.b-index in
@@ -43,6 +46,7 @@ overflow_add-index_mut-in-loop-b c =
     let light = sum-within c.args.bodies.now c.args.weights.now c.args.ranks rank (take i c.args.bodies.now) c.loop-b.sums.items c.loop-b.invariant.sums in
     omega (arith, now, light, c.loop-b.invariant.before, c.loop-b.invariant.within, c.loop-b-test.true, c.requires.few, c.counted-weight.ensures.within)
 
+-- each body is counted for its rank, and its weight is added there
 pub loop-b-preserved : goal.loop-b-preserved
 loop-b-preserved c =
     let i = c.loop-b.b-index in

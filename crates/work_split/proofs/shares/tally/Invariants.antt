@@ -7,6 +7,7 @@ use Rattle.hot_model.proofs.Ranges.{NoneBelow}
 use Rattle.work_split.specs.Splits.{AreCounts, AreWeights}
 use Rattle.work_split.proofs.shares.tally.Given as goal
 
+-- counts and weights are those of the bodies passed, and the rank is that of the key at hand
 abbrev pub invariant-loop-b : goal.invariant-loop-b
 invariant-loop-b l = record {
   before : l.before ≡ sum_by (counted (weight_in l.weights) l.bodies) (take l.b-index l.bodies);

@@ -3,6 +3,7 @@ use Rattle.hot_model.specs.Limits.{max_work}
 use Rattle.hot_model.specs.Split.{weight_in}
 use Rattle.work_split.proofs.weights.total.Given as goal
 
+-- the sum is that of the weights of the bodies passed
 abbrev pub invariant-loop-b : goal.invariant-loop-b
 invariant-loop-b l = record {
   value : l.sum ≡ sum_by (weight_in l.weights) (take l.b-index l.bodies);

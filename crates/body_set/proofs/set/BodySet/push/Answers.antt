@@ -16,6 +16,7 @@ weight_in p = p.1
 abbrev row_of : BodyValue → ℕ
 row_of b = b.row
 
+-- the set with the row added is a set
 pub invariant_of-self-2 : goal.invariant_of-self-2
 invariant_of-self-2 c =
     let raw = c.args.raw.now in
@@ -31,6 +32,7 @@ invariant_of-self-2 c =
     rw (c.in_ok-append.ensures.bodies, idents, c.in_ok-append.ensures.weights)
     (grown_set c.self.inside.bodies.items c.self.inside.idents.items c.self.inside.weights.items c.in_ok-body.body raw.ident c.in_ok-body.weight c.self.invariant c.in_ok-body.ensures.body (row_is ∙ length_is) (omega (arith, few, length_is)))
 
+-- a row that was added has no fault
 pub returns-clause-first_fault : goal.returns-clause-first_fault
 returns-clause-first_fault c =
     let raw = c.args.raw.now in
@@ -41,6 +43,7 @@ returns-clause-first_fault c =
     let none : first_fault cube row raw ≡ None = good.0 in
     rw (← c.self.view_is, ← length_is, none) (search rules)
 
+-- the set is the old one with the row added
 pub returns-clause-pushed : goal.returns-clause-pushed
 returns-clause-pushed c =
     let raw = c.args.raw.now in

@@ -6,6 +6,7 @@ use Rattle.round_runner.specs.Starving.{is_to_another}
 use Rattle.round_runner.proofs.Lists.{position-map}
 use Rattle.round_runner.proofs.mem_wire.MemWire.oldest_to_another.Goals as goal
 
+-- the place is that of the oldest pending letter to another rank, where there is one
 pub returns : goal.returns
 returns c =
     rw (sym c.self.view_is) (rw (position-map (is_to_another c.args.rank) (λ (h : Waiting). h.letter) c.self.inside.waiting.items) (record {

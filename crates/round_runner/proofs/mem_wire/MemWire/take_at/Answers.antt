@@ -6,6 +6,7 @@ use Rattle.round_runner.specs.Notes.{note_of}
 use Rattle.round_runner.proofs.Lists.{map_remove}
 use Rattle.round_runner.proofs.mem_wire.MemWire.take_at.Goals as goal
 
+-- the letter at the place is pending no more, and the log has its note
 pub returns-clause-left : goal.returns-clause-left
 returns-clause-left c =
     let f : Waiting → LetterValue = λ h. h.letter in

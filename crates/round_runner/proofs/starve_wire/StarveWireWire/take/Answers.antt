@@ -9,6 +9,7 @@ use Rattle.round_runner.proofs.starve_wire.StarveWireWire.take.Goals as goal
 abbrev lazy : MemState → Desk
 lazy w = record { pending = w.pending; log = w.log; turn = w.turn; mail = w.mail; eager = never_eager }
 
+-- the letter was a pending one, which goes out, and the log has its note
 pub returns-clause-taken_or_none : goal.returns-clause-taken_or_none
 returns-clause-taken_or_none c =
     let h = takes_at (lazy c.self.inside.wire) c.unwrap_or-place.result c.take_at.result c.take_at.ensures.letter in

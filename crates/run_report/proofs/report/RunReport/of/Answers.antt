@@ -4,6 +4,7 @@ use Rattle.rank_walk.proofs.Making.{shared_good}
 use Rattle.run_report.proofs.Reports.{efforts_few, report_is, counted_on}
 use Rattle.run_report.proofs.report.RunReport.of.Goals as goal
 
+-- there are no more efforts than there may be ranks
 pub invariant_of-result : goal.invariant_of-result
 invariant_of-result g c =
     let items = ap length (c.in_ok-efforts.ensures.items ∙ c.deref-3.ensures.value) in
@@ -11,6 +12,7 @@ invariant_of-result g c =
     let many = c.args.sharing.many in
     omega (arith, items, few, many)
 
+-- the report is that of the run, for each log with these letters and rounds
 pub returns : goal.returns
 returns g c = record {
   value = λ v log finds letters rounds.

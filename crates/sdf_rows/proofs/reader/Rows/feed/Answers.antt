@@ -7,6 +7,7 @@ use Rattle.sdf_rows.specs.Reading.{RowsValue, reader_behind, part_behind, wanted
 use Rattle.sdf_rows.proofs.Steps.{full_step, full_rows, kept_step, kept_rows, ended_step, ended_rows, ended_bytes, held_part, given_number, own_layout}
 use Rattle.sdf_rows.proofs.reader.Rows.feed.Goals as goal
 
+-- where all stated rows were given, the reader is behind all bytes of the piece
 pub returns-then-is_full-clause-after : goal.returns-then-is_full-clause-after
 returns-then-is_full-clause-after c bytes is =
     let full = sym (c.is_full.ensures bytes is) ∙ c.if-is_full.true in
@@ -15,6 +16,7 @@ returns-then-is_full-clause-after c bytes is =
     (ap (λ (v : RowsValue). record v { beyond = true }) (c.self.view_is ∙ is)
     ∙ full_step c.args.self.now.layout bytes c.args.piece.now (omega (arith, width, c.self.invariant.0.some_bytes)) c.requires.some full)
 
+-- and the piece gives no row
 pub returns-then-is_full-clause-rows : goal.returns-then-is_full-clause-rows
 returns-then-is_full-clause-rows c bytes is =
     let full = sym (c.is_full.ensures bytes is) ∙ c.if-is_full.true in
@@ -22,6 +24,7 @@ returns-then-is_full-clause-rows c bytes is =
     full_rows c.args.self.now.layout bytes c.args.piece.now (omega (arith, width, c.self.invariant.0.some_bytes)) full
     ∙ sym (append-nil (rows c.args.self.now.layout bytes))
 
+-- where the row goes on, the reader is behind all bytes of the piece
 pub returns-then-piece-wanted-clause-after : goal.returns-then-piece-wanted-clause-after
 returns-then-piece-wanted-clause-after c bytes is =
     let lacks = sym (c.is_full.ensures bytes is) ∙ c.if-is_full.false in
@@ -33,6 +36,7 @@ returns-then-piece-wanted-clause-after c bytes is =
     ∙ kept_step c.args.self.now.layout bytes c.args.piece.now lacks (omega (arith, c.wanted-wanted.ensures, c.if-piece-wanted.true, length_held))
     ∙ ap (λ (t : List ℕ). reader_behind c.args.self.now.layout (bytes ++ t)) (sym (take_all (length c.args.piece.now) c.args.piece.now (omega arith))))
 
+-- and the piece gives no row
 pub returns-then-piece-wanted-clause-rows : goal.returns-then-piece-wanted-clause-rows
 returns-then-piece-wanted-clause-rows c bytes is =
     let lacks = sym (c.is_full.ensures bytes is) ∙ c.if-is_full.false in
@@ -42,6 +46,7 @@ returns-then-piece-wanted-clause-rows c bytes is =
     ∙ kept_rows c.args.self.now.layout bytes c.args.piece.now (omega (arith, c.wanted-wanted.ensures, c.if-piece-wanted.true, length_held))
     ∙ sym (append-nil (rows c.args.self.now.layout bytes))
 
+-- where the row ends in the piece, the reader is behind its last byte
 pub returns-clause-after : goal.returns-clause-after
 returns-clause-after c bytes is =
     let seen = ap (λ (v : RowsValue). v.layout.width) c.self.view_is in
@@ -54,6 +59,7 @@ returns-clause-after c bytes is =
     ∙ ap (λ (v : RowsValue). record v { given = min (v.given + 1) (2 ^ 64 - 1); held = [] }) is
     ∙ ended_step c.args.self.now.layout bytes (take c.wanted-wanted.result c.args.piece.now) (omega (arith, seen, c.self.invariant.0.some_bytes)) lacks (omega (arith, c.wanted-wanted.ensures, length_held, taken)))
 
+-- and the rows are those before with this one
 pub returns-clause-rows : goal.returns-clause-rows
 returns-clause-rows c bytes is =
     let seen = ap (λ (v : RowsValue). v.layout.width) c.self.view_is in
@@ -66,6 +72,7 @@ returns-clause-rows c bytes is =
     c.row_with-row.ensures.value ∙ rw (given, held) refl in
     rw row (ended_rows c.args.self.now.layout bytes (take c.wanted-wanted.result c.args.piece.now) (omega (arith, seen, c.self.invariant.0.some_bytes)) lacks (omega (arith, c.wanted-wanted.ensures, length_held, taken)))
 
+-- the answer is that row, and the bytes taken are those that it wanted
 pub returns-clause-answer : goal.returns-clause-answer
 returns-clause-answer c bytes is =
     let lacks = sym (c.is_full.ensures bytes is) ∙ c.if-is_full.false in

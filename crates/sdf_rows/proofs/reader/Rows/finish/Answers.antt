@@ -4,6 +4,7 @@ use Rattle.sdf_rows.specs.Reading.{RowsValue}
 use Rattle.sdf_rows.proofs.Ends.{ends_full, ends_counted}
 use Rattle.sdf_rows.proofs.reader.Rows.finish.Goals as goal
 
+-- all stated rows and no byte more end well
 pub returns-then-is_full : goal.returns-then-is_full
 returns-then-is_full c = record {
   ending = λ bytes is.
@@ -14,6 +15,7 @@ returns-then-is_full c = record {
       ∙ sym (ends_full c.args.self.now.layout bytes (omega (arith, width, c.self.invariant.0.some_bytes)) full within);
 }
 
+-- where a stated row lacks, the next row is cut short
 pub returns-then-is_counted : goal.returns-then-is_counted
 returns-then-is_counted c = record {
   ending = λ bytes is.

@@ -3,6 +3,7 @@ use Rattle.work_split.specs.Splits.{world_of}
 use Rattle.split_table.specs.Steps.{AreLists}
 use Rattle.split_table.proofs.table.SplitTable.of.Goals as goal
 
+-- shares, branches and top cells are those of the set split over the ranks
 pub returns : goal.returns
 returns c =
     let w = world_of c.args.set.now c.args.ranks in

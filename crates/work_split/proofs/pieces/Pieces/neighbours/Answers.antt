@@ -6,6 +6,7 @@ use Rattle.work_split.specs.Splits.{ranks_of}
 use Rattle.work_split.proofs.Lists.{starts-say, left-front, right-back}
 use Rattle.work_split.proofs.pieces.Pieces.neighbours.Goals as goal
 
+-- the greatest key before the rank's start is its left neighbour
 pub returns-clause-left : goal.returns-clause-left
 returns-clause-left c =
     let ranks = ranks_of c.args.self.now in
@@ -14,6 +15,7 @@ returns-clause-left c =
     ∙ (ap (λ (xs : List BodyValue). greatest (map key_of_body (take c.range-from.result.0 xs))) c.bodies-bodies.ensures.value
     ∙ left-front c.args.set.now ranks c.args.q c.range-from.result.0 c.bodies-bodies.ensures.facts (ap (λ (p : ℕ × ℕ). p.0) c.range-from.ensures.value ∙ say.0))
 
+-- the least key from the rank's end on is its right neighbour
 pub returns-clause-right : goal.returns-clause-right
 returns-clause-right c =
     let ranks = ranks_of c.args.self.now in

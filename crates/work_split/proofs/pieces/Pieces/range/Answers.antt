@@ -4,6 +4,7 @@ use Rattle.work_split.specs.Splits.{ranks_of}
 use Rattle.work_split.proofs.Lists.{starts-say, run_of}
 use Rattle.work_split.proofs.pieces.Pieces.range.Goals as goal
 
+-- between the two places stand the bodies of the rank, and no others
 pub returns-clause-piece : goal.returns-clause-piece
 returns-clause-piece c = λ set h e.
     let ranks = ranks_of c.args.self.now in
