@@ -5,7 +5,7 @@ usage: docs/accuracy/make.py [--program PATH --note TEXT] [--count N] [--most N]
 
 PART is a part of the page: ratio, leaf, scale, time, ranks, field; without one all are made. The program is the one that
 `./hot` built; where another one is given, the note says on the page which. N bodies of each system are taken for the
-errors (2000), and up to `--most` for the times (50000). It wants NumPy and matplotlib, and takes some minutes.
+errors (5000), and up to `--most` for the times (100000). It wants NumPy and matplotlib, and takes some minutes.
 """
 
 import argparse
@@ -43,7 +43,7 @@ SHOWN_SIDES = range(29, 12, -2)
 MASSES = (4_194_304, 1_024)
 COUNTS = (1_000, 2_000, 5_000, 10_000, 20_000, 50_000, 100_000, 200_000)
 EPS = 0.01
-RUNS = 5  # of which the least time counts
+RUNS = 3  # of which the least time counts
 plt.rcParams.update({"svg.hashsalt": "hot", "font.size": 9, "figure.constrained_layout.use": True})
 
 
@@ -301,8 +301,8 @@ def main():
     parser = argparse.ArgumentParser()
     parser.add_argument("--program", default=str(BUILT))
     parser.add_argument("--note", default="of the proved program")
-    parser.add_argument("--count", type=int, default=2000)
-    parser.add_argument("--most", type=int, default=50_000)
+    parser.add_argument("--count", type=int, default=5_000)
+    parser.add_argument("--most", type=int, default=100_000)
     parser.add_argument("parts", nargs="*", metavar="PART", help=" ".join(parts))
     options = parser.parse_args()
     if options.program != str(BUILT) and options.note == parser.get_default("note"):
