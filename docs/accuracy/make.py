@@ -82,7 +82,7 @@ class Pages:
             data, scale = body_bytes(*make(self.count, 1), eps=EPS)
             truth = self.forces(data, scale, theta=0)
             found = {
-                (ratio, moments): self.errors_and_seconds(data, scale, truth, ratio, moments)
+                (ratio, moments): self.errors_and_seconds(data, scale, truth, theta=ratio, moments=moments)
                 for moments in (1, 2)
                 for ratio in ratios_for(moments)
             }
@@ -106,9 +106,9 @@ class Pages:
         lines = table(["bodies", "ratio", *heads, *(f"{head}, moments 2" for head in heads)], rows)
         return [*lines, "", how_timed()]
 
-    def errors_and_seconds(self, data, scale, truth, ratio, moments):
-        """The errors at a ratio, and the seconds that they took."""
-        found, seconds = timed(lambda: self.forces(data, scale, ratio, moments=moments))
+    def errors_and_seconds(self, data, scale, truth, **options):
+        """The errors of a call, and the seconds that it took."""
+        found, seconds = timed(lambda: self.forces(data, scale, **options))
         return Errors.of(relative_errors(found, truth)), seconds
 
     def leaf(self):
@@ -117,9 +117,9 @@ class Pages:
             data, scale = body_bytes(*make(self.count, 1), eps=EPS)
             truth = self.forces(data, scale, theta=0)
             for leaf in LEAVES:
-                errors = Errors.of(relative_errors(self.forces(data, scale, leaf=leaf), truth))
-                rows.append([name, leaf, *map(share, numbers(errors))])
-        return table(["bodies", "leaf", "median", "99 %", "largest"], rows)
+                errors, seconds = self.errors_and_seconds(data, scale, truth, leaf=leaf)
+                rows.append([name, leaf, *map(share, numbers(errors)), f"{seconds:.3f}"])
+        return [*table(["bodies", "leaf", "median", "99 %", "largest", "seconds"], rows), "", how_timed()]
 
     def scale(self):
         positions, _ = SAMPLES["uniform box"](self.count // 2, 1)
