@@ -12,6 +12,7 @@ import argparse
 import os
 import re
 import resource
+import subprocess
 import sys
 from pathlib import Path
 
@@ -43,6 +44,7 @@ SHOWN_SIDES = range(29, 12, -2)
 MASSES = (4_194_304, 1_024)
 COUNTS = (1_000, 2_000, 5_000, 10_000, 20_000, 50_000, 100_000, 200_000)
 EPS = 0.01
+RANKS = 8  # over which bodies are split and cells asked for
 RUNS = 3  # of which the least time counts
 plt.rcParams.update({"svg.hashsalt": "hot", "font.size": 9, "figure.constrained_layout.use": True})
 
@@ -80,7 +82,8 @@ class Pages:
         rows = []
         for (upper, lower), (name, make) in zip(axes.T, SAMPLES.items()):
             data, scale = body_bytes(*make(self.count, 1), eps=EPS)
-            truth = self.forces(data, scale, theta=0)
+            truth, longest = timed(lambda: self.forces(data, scale, theta=0))
+            lower.axvline(longest, color="0.5", linestyle="--", label="all pairs")
             found = {
                 (ratio, moments): self.errors_and_seconds(data, scale, truth, theta=ratio, moments=moments)
                 for moments in (1, 2)
@@ -95,16 +98,25 @@ class Pages:
                     axis.semilogy(places, [it.median for it in errors], "s:", label=f"median, moments {moments}", **ways)
             upper.set(title=name, xlabel="opening ratio")
             lower.set(xlabel="processor seconds", xscale="log")
-            rows += [[name, f"{value_of(ratio):g}", *cells_of(found, ratio)] for ratio in SHOWN]
+            rows.append([name, "0", self.asks(data, scale, "0/1"), "0", "0", "0", f"{longest:.3f}", *[""] * 4])
+            for ratio in SHOWN:
+                rows.append([name, f"{value_of(ratio):g}", self.asks(data, scale, ratio), *cells_of(found, ratio)])
         for axis in axes.flat:
             axis.grid(alpha=0.3)
         for axis in axes[:, 0]:
             axis.set_ylabel("relative error")
         axes[0, 0].legend()
+        axes[1, 0].legend(handles=axes[1, 0].lines[:1])
         save(figure, "ratio.svg")
         heads = ["median", "99 %", "largest", "seconds"]
-        lines = table(["bodies", "ratio", *heads, *(f"{head}, moments 2" for head in heads)], rows)
+        lines = table(["bodies", "ratio", "asks", *heads, *(f"{head}, moments 2" for head in heads)], rows)
         return [*lines, "", how_timed()]
+
+    def asks(self, data, scale, ratio):
+        """How many cells the ranks ask of each other at a ratio."""
+        words = ["forces", "--theta", ratio, "--eps", str(scale.softening(EPS)), "--ranks", str(RANKS), "--report"]
+        report = subprocess.run([self.program, *words], input=data, capture_output=True, check=True).stderr.decode()
+        return f"{sum(int(asks) for asks in re.findall(r'^rank .* asks (.*)$', report, re.M)):,}"
 
     def errors_and_seconds(self, data, scale, truth, **options):
         """The errors of a call, and the seconds that it took."""
@@ -172,11 +184,11 @@ class Pages:
     def ranks(self):
         positions, masses = SAMPLES["two clusters"](self.count, 1)
         data, scale = body_bytes(positions, masses, eps=EPS)
-        text = run_program(["split", "--ranks", 8], data, self.program).decode()
+        text = run_program(["split", "--ranks", RANKS], data, self.program).decode()
         owners = rank_of_bodies(text, data)
         figure, axis = plt.subplots(figsize=(7, 4.6))
         points = axis.scatter(*positions[:, :2].T, c=owners, s=3, cmap=plt.get_cmap("tab10", 10), vmin=-0.5, vmax=9.5)
-        figure.colorbar(points, ax=axis, label="rank", ticks=range(8), boundaries=np.arange(-0.5, 8))
+        figure.colorbar(points, ax=axis, label="rank", ticks=range(RANKS), boundaries=np.arange(-0.5, RANKS))
         axis.set(xlim=(-4, 8), ylim=(-4, 5), aspect="equal", xlabel="x", ylabel="y")
         save(figure, "ranks.png")
         lines = [line.split() for line in text.splitlines() if line.startswith("rank ")]
@@ -257,7 +269,7 @@ def how_timed():
     machine = f"{os.cpu_count()} processors" + (f" ({names[0]})" if names else "")
     return (
         f"Seconds are processor seconds of the program, user and system, on one rank, the least of {RUNS} runs. The machine"
-        f" has {machine}, and its load was {os.getloadavg()[0]:.0f}."
+        f" has {machine}, and its load average was {os.getloadavg()[0]:.0f}."
     )
 
 
