@@ -1,4 +1,4 @@
-"""Checks the documents: README.md, CONTRIBUTING.md, docs/ and the README of each crate.
+"""Checks the documents: README.md, CONTRIBUTING.md, docs/, the README of each crate and that of python/.
 
 usage: tools/check_docs.py [--program PATH]
 
@@ -46,7 +46,7 @@ def read(name):
 def documents():
     """The documents by their names from the top."""
     named = lambda pattern: sorted(os.path.relpath(it, TOP) for it in glob.glob(os.path.join(TOP, pattern)))
-    return ["README.md", "CONTRIBUTING.md", *named("docs/*.md"), *named("crates/*/README.md")]
+    return ["README.md", "CONTRIBUTING.md", *named("docs/*.md"), *named("crates/*/README.md"), "python/README.md"]
 
 
 def blocks(text):

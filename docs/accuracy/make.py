@@ -5,13 +5,15 @@ usage: docs/accuracy/make.py [--program PATH --note TEXT] [--count N] [--most N]
 
 PART is a part of the page: ratio, leaf, scale, time, ranks, field; without one all are made. The program is the one that
 `./hot` built; where another one is given, the note says on the page which. N bodies of each system are taken for the
-errors (2000), and up to `--most` for the times (50000). It wants NumPy and matplotlib, and takes some minutes.
+errors (5000), and up to `--most` for the times (100000). It wants NumPy and matplotlib, and takes some minutes.
 """
 
 import argparse
+import os
 import re
+import resource
+import subprocess
 import sys
-import time
 from pathlib import Path
 
 HERE = Path(__file__).resolve().parent
@@ -25,7 +27,7 @@ import hotbodies
 from hotbodies.bodies import body_bytes
 from hotbodies.direct import Errors, direct_accelerations, relative_errors
 from hotbodies.limits import FINE_BITS, KEY_LEVELS
-from hotbodies.run import ProgramError, file_forces, run_program
+from hotbodies.run import file_forces, run_program
 from hotbodies.samples import SAMPLES
 from hotbodies.scale import Scale
 
@@ -42,6 +44,8 @@ SHOWN_SIDES = range(29, 12, -2)
 MASSES = (4_194_304, 1_024)
 COUNTS = (1_000, 2_000, 5_000, 10_000, 20_000, 50_000, 100_000, 200_000)
 EPS = 0.01
+RANKS = 8  # over which bodies are split and cells asked for
+RUNS = 3  # of which the least time counts
 plt.rcParams.update({"svg.hashsalt": "hot", "font.size": 9, "figure.constrained_layout.use": True})
 
 
@@ -73,51 +77,51 @@ class Pages:
         options = {"softening": scale.softening(EPS), "program": self.program} | options
         return file_forces(data, scale, theta, **options).accelerations()
 
-    def takes_moments(self):
-        """Whether this program has `--moments`, by which a cell pulls with its second moments too."""
-        data, scale = body_bytes([[0, 0, 0], [1, 0, 0]], 1.0, eps=EPS)
-        try:
-            self.forces(data, scale, more=["--moments", 2])
-        except ProgramError as error:
-            if error.code != "A3":
-                raise
-            return False
-        return True
-
     def ratio(self):
-        orders = (1, 2) if self.takes_moments() else (1,)
-        figure, axes = plt.subplots(1, len(SAMPLES), figsize=(10, 3.4), sharey=True)
+        figure, axes = plt.subplots(2, len(SAMPLES), figsize=(10, 6.4), sharey=True)
         rows = []
-        for axis, (name, make) in zip(axes, SAMPLES.items()):
+        for (upper, lower), (name, make) in zip(axes.T, SAMPLES.items()):
             data, scale = body_bytes(*make(self.count, 1), eps=EPS)
-            truth = self.forces(data, scale, theta=0)
+            truth, longest = timed(lambda: self.forces(data, scale, theta=0))
+            lower.axvline(longest, color="0.5", linestyle="--", label="all pairs")
             found = {
-                (ratio, order): Errors.of(relative_errors(self.forces(data, scale, ratio, more=more), truth))
-                for order in orders
-                for more in [["--moments", order] if order > 1 else []]
-                for ratio in RATIOS
-                if order == 1 or value_of(ratio) <= 1
+                (ratio, moments): self.errors_and_seconds(data, scale, truth, theta=ratio, moments=moments)
+                for moments in (1, 2)
+                for ratio in ratios_for(moments)
             }
-            for order in orders:
-                known = [ratio for ratio in RATIOS if (ratio, order) in found]
-                label = "" if len(orders) == 1 else f", moments {order}"
-                values = [value_of(ratio) for ratio in known]
-                axis.semilogy(values, [found[ratio, order].most for ratio in known], "o-", ms=3, label=f"99 %{label}")
-                axis.semilogy(values, [found[ratio, order].median for ratio in known], "s-", ms=3, label=f"median{label}")
-            axis.set(title=name, xlabel="opening ratio")
-            axis.grid(alpha=0.3)
+            for moments in (1, 2):
+                known = [(value_of(ratio), *found[ratio, moments]) for ratio in ratios_for(moments)]
+                ratios, errors, seconds = zip(*known)
+                for axis, places in ((upper, ratios), (lower, seconds)):
+                    ways = {"color": f"C{moments - 1}", "ms": 3}
+                    axis.semilogy(places, [it.most for it in errors], "o-", label=f"99 %, moments {moments}", **ways)
+                    axis.semilogy(places, [it.median for it in errors], "s:", label=f"median, moments {moments}", **ways)
+            upper.set(title=name, xlabel="opening ratio")
+            lower.set(xlabel="processor seconds", xscale="log")
+            rows.append([name, "0", self.asks(data, scale, "0/1"), "0", "0", "0", f"{longest:.3f}", *[""] * 4])
             for ratio in SHOWN:
-                cells = [
-                    share(number) if (ratio, order) in found else ""
-                    for order in orders
-                    for number in numbers(found.get((ratio, order)))
-                ]
-                rows.append([name, f"{value_of(ratio):g}", *cells])
-        axes[0].set_ylabel("relative error")
-        axes[0].legend()
+                rows.append([name, f"{value_of(ratio):g}", self.asks(data, scale, ratio), *cells_of(found, ratio)])
+        for axis in axes.flat:
+            axis.grid(alpha=0.3)
+        for axis in axes[:, 0]:
+            axis.set_ylabel("relative error")
+        axes[0, 0].legend()
+        axes[1, 0].legend(handles=axes[1, 0].lines[:1])
         save(figure, "ratio.svg")
-        heads = ["median", "99 %", "largest"]
-        return table(["bodies", "ratio", *heads, *([f"{head}, moments 2" for head in heads] * (len(orders) - 1))], rows)
+        heads = ["median", "99 %", "largest", "seconds"]
+        lines = table(["bodies", "ratio", "asks", *heads, *(f"{head}, moments 2" for head in heads)], rows)
+        return [*lines, "", how_timed()]
+
+    def asks(self, data, scale, ratio):
+        """How many cells the ranks ask of each other at a ratio."""
+        words = ["forces", "--theta", ratio, "--eps", str(scale.softening(EPS)), "--ranks", str(RANKS), "--report"]
+        report = subprocess.run([self.program, *words], input=data, capture_output=True, check=True).stderr.decode()
+        return f"{sum(int(asks) for asks in re.findall(r'^rank .* asks (.*)$', report, re.M)):,}"
+
+    def errors_and_seconds(self, data, scale, truth, **options):
+        """The errors of a call, and the seconds that it took."""
+        found, seconds = timed(lambda: self.forces(data, scale, **options))
+        return Errors.of(relative_errors(found, truth)), seconds
 
     def leaf(self):
         rows = []
@@ -125,9 +129,9 @@ class Pages:
             data, scale = body_bytes(*make(self.count, 1), eps=EPS)
             truth = self.forces(data, scale, theta=0)
             for leaf in LEAVES:
-                errors = Errors.of(relative_errors(self.forces(data, scale, leaf=leaf), truth))
-                rows.append([name, leaf, *map(share, numbers(errors))])
-        return table(["bodies", "leaf", "median", "99 %", "largest"], rows)
+                errors, seconds = self.errors_and_seconds(data, scale, truth, leaf=leaf)
+                rows.append([name, leaf, *map(share, numbers(errors)), f"{seconds:.3f}"])
+        return [*table(["bodies", "leaf", "median", "99 %", "largest", "seconds"], rows), "", how_timed()]
 
     def scale(self):
         positions, _ = SAMPLES["uniform box"](self.count // 2, 1)
@@ -159,35 +163,32 @@ class Pages:
 
     def time(self):
         counts = [count for count in COUNTS if count <= self.most]
-        rows, taken = [], {}
+        taken = {}
         for name, make in SAMPLES.items():
             for count in counts:
                 data, scale = body_bytes(*make(count, 1), eps=EPS)
                 words = ["forces", "--theta", "7/10", "--eps", scale.softening(EPS)]
-                best = np.inf
-                for _ in range(3 if count <= 10_000 else 1):
-                    begin = time.perf_counter()
-                    run_program(words, data, self.program)
-                    best = min(best, time.perf_counter() - begin)
-                taken[name, count] = best
+                _, taken[name, count] = timed(lambda: run_program(words, data, self.program))
+                print(f"  {name}, {count} bodies: {taken[name, count]:.2f} s", flush=True)
         figure, axis = plt.subplots(figsize=(6, 3.4))
         for name in SAMPLES:
             axis.loglog(counts, [taken[name, count] for count in counts], "o-", ms=3, label=name)
-        axis.set(xlabel="bodies", ylabel="seconds, one rank, ratio 0.7")
+        axis.set(xlabel="bodies", ylabel="processor seconds, ratio 0.7")
         axis.grid(alpha=0.3)
         axis.legend()
         save(figure, "time.svg")
         rows = [[f"{count:,}", *(f"{taken[name, count]:.2f}" for name in SAMPLES)] for count in counts]
-        return [*table(["bodies", *SAMPLES], rows), "", "![Seconds against bodies](accuracy/time.svg)"]
+        picture = "![Processor seconds against bodies](accuracy/time.svg)"
+        return [*table(["bodies", *SAMPLES], rows), "", picture, "", how_timed()]
 
     def ranks(self):
         positions, masses = SAMPLES["two clusters"](self.count, 1)
         data, scale = body_bytes(positions, masses, eps=EPS)
-        text = run_program(["split", "--ranks", 8], data, self.program).decode()
+        text = run_program(["split", "--ranks", RANKS], data, self.program).decode()
         owners = rank_of_bodies(text, data)
         figure, axis = plt.subplots(figsize=(7, 4.6))
         points = axis.scatter(*positions[:, :2].T, c=owners, s=3, cmap=plt.get_cmap("tab10", 10), vmin=-0.5, vmax=9.5)
-        figure.colorbar(points, ax=axis, label="rank", ticks=range(8), boundaries=np.arange(-0.5, 8))
+        figure.colorbar(points, ax=axis, label="rank", ticks=range(RANKS), boundaries=np.arange(-0.5, RANKS))
         axis.set(xlim=(-4, 8), ylim=(-4, 5), aspect="equal", xlabel="x", ylabel="y")
         save(figure, "ranks.png")
         lines = [line.split() for line in text.splitlines() if line.startswith("rank ")]
@@ -230,9 +231,46 @@ def value_of(ratio):
     return number / over
 
 
+def ratios_for(moments):
+    """The ratios that the program takes with so many moments."""
+    return [ratio for ratio in RATIOS if moments == 1 or value_of(ratio) <= 1]
+
+
 def numbers(errors):
-    """The three numbers of errors, three empty ones where there are none."""
-    return [0.0] * 3 if errors is None else [errors.median, errors.most, errors.largest]
+    return [errors.median, errors.most, errors.largest]
+
+
+def cells_of(found, ratio):
+    """The cells of a row: errors and seconds with one moment and with two; empty where there are none."""
+    cells = []
+    for moments in (1, 2):
+        if (ratio, moments) in found:
+            errors, seconds = found[ratio, moments]
+            cells += [*map(share, numbers(errors)), f"{seconds:.3f}"]
+        else:
+            cells += [""] * 4
+    return cells
+
+
+def timed(call):
+    """What a call gives, and the processor seconds of the programs that it ran, the least of some runs."""
+    used = lambda: sum(resource.getrusage(resource.RUSAGE_CHILDREN)[:2])  # user and system
+    taken = []
+    for _ in range(RUNS):
+        begin = used()
+        found = call()
+        taken.append(used() - begin)
+    return found, min(taken)
+
+
+def how_timed():
+    """A line on how times were taken, and where."""
+    names = re.findall(r"^model name\s*: (.*)", Path("/proc/cpuinfo").read_text(encoding="utf-8"), re.M)
+    machine = f"{os.cpu_count()} processors" + (f" ({names[0]})" if names else "")
+    return (
+        f"Seconds are processor seconds of the program, user and system, on one rank, the least of {RUNS} runs. The machine"
+        f" has {machine}, and its load average was {os.getloadavg()[0]:.0f}."
+    )
 
 
 def body_keys(data):
@@ -275,8 +313,8 @@ def main():
     parser = argparse.ArgumentParser()
     parser.add_argument("--program", default=str(BUILT))
     parser.add_argument("--note", default="of the proved program")
-    parser.add_argument("--count", type=int, default=2000)
-    parser.add_argument("--most", type=int, default=50_000)
+    parser.add_argument("--count", type=int, default=5_000)
+    parser.add_argument("--most", type=int, default=100_000)
     parser.add_argument("parts", nargs="*", metavar="PART", help=" ".join(parts))
     options = parser.parse_args()
     if options.program != str(BUILT) and options.note == parser.get_default("note"):

@@ -3,7 +3,7 @@
 import argparse
 import sys
 
-from .accuracy import RATIOS, errors_by_ratio, prepared, table_lines
+from .accuracy import RATIOS, errors_by_ratio, prepared, ratios_for, table_lines
 from .convert import Names, read_table, write_table
 from .run import ProgramError, ProgramMissing
 
@@ -32,9 +32,10 @@ def _parser():
     _add_names(convert)
     accuracy = commands.add_parser("accuracy", help="prints the errors at several ratios against ratio 0")
     accuracy.add_argument("input", metavar="FILE", help=".sdf .npy .npz .csv .hdf5 .h5")
-    accuracy.add_argument("--ratios", default=",".join(RATIOS), help="opening ratios, as 1/2,7/10")
+    accuracy.add_argument("--ratios", help=f"opening ratios ({','.join(RATIOS)}; with two moments those up to 1)")
     accuracy.add_argument("--eps", type=float, help="the softening, in the unit of the positions")
     accuracy.add_argument("--leaf", type=int, default=8, help="bodies of a cell that is not parted (8)")
+    accuracy.add_argument("--moments", type=int, default=1, help="2 where cells pull with second moments too (1)")
     accuracy.add_argument("--ranks", type=int, default=1, help="ranks over which the work is split (1)")
     accuracy.add_argument("--program", help="the path of the program hot")
     _add_names(accuracy)
@@ -53,10 +54,9 @@ def _convert(options):
 
 def _accuracy(options):
     data, scale, softening = prepared(options.input, options.eps, _names(options))
-    ratios = options.ratios.split(",")
-    pairs = errors_by_ratio(
-        data, scale, ratios, softening=softening, leaf=options.leaf, ranks=options.ranks, program=options.program
-    )
+    ratios = options.ratios.split(",") if options.ratios else ratios_for(options.moments)
+    runs = {name: getattr(options, name) for name in ("leaf", "moments", "ranks", "program")}
+    pairs = errors_by_ratio(data, scale, ratios, softening=softening, **runs)
     for line in table_lines(pairs):
         print(line, flush=True)
 

@@ -1,5 +1,7 @@
 """How far accelerations at an opening ratio are from those of all pairs."""
 
+from fractions import Fraction
+
 from .bodies import body_bytes, read_bodies
 from .convert import Names, read_table
 from .direct import Errors, relative_errors
@@ -9,6 +11,11 @@ from .run import file_forces
 RATIOS = ("1/10", "3/10", "1/2", "7/10", "9/10", "6/5")
 
 
+def ratios_for(moments):
+    """Those of the ratios that the program takes with so many moments: with second moments those up to 1."""
+    return [ratio for ratio in RATIOS if moments == 1 or Fraction(ratio) <= 1]
+
+
 def errors_by_ratio(data, scale, ratios=RATIOS, **options):
     """The errors of a body file's accelerations at several ratios, against those at ratio 0.
 
@@ -16,7 +23,7 @@ def errors_by_ratio(data, scale, ratios=RATIOS, **options):
         data: the bytes of the body file.
         scale: its Scale.
         ratios: opening ratios, as `ratio_words`.
-        options: softening, leaf, ranks and program of `file_forces`.
+        options: softening, leaf, ranks, program and moments of `file_forces`.
 
     Yields:
         (str, Errors): the ratio, and the median, 99 in 100 and largest of the relative errors of the bodies.

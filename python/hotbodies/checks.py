@@ -71,7 +71,8 @@ def as_whole(name, values, count, least, most):
     """The values as whole numbers of shape (count,), int64 where they fit, else uint64.
 
     Raises:
-        ValueError: they are no whole numbers, the shape is another, or one is not in least..most.
+        ValueError: they are no whole numbers, the shape is another, one is not in least..most, or some are below 0 and
+            others above 2^63 - 1, which no column holds.
     """
     array = np.asarray(values)
     if array.shape != (count,):
@@ -85,19 +86,16 @@ def as_whole(name, values, count, least, most):
     if int(array.min()) < least or int(array.max()) > most:
         exact = array.astype(object)
         all_good(name, exact, (exact >= least) & (exact <= most), f"a number from {least} to {most} is wanted")
-    return array.astype(np.int64 if int(array.max()) < 2**63 else np.uint64)
+    if int(array.max()) < 2**63:
+        return array.astype(np.int64)
+    if int(array.min()) < 0:
+        raise ValueError(f"{name} are below 0 and above 2^63 - 1: no column holds both")
+    return array.astype(np.uint64)
 
 
 def as_idents(values, count):
-    """Idents as `as_whole` gives them, from -2^63 to 2^64 - 1 and all in int64 or all in uint64.
-
-    Raises:
-        ValueError: as `as_whole`, or some are below 0 and others above 2^63 - 1, which no column holds.
-    """
-    idents = as_whole("idents", values, count, MIN_IDENT, MAX_IDENT)
-    if idents.dtype == np.uint64 and int(np.asarray(values).min()) < 0:
-        raise ValueError("idents are below 0 and above 2^63 - 1: no column holds both")
-    return idents
+    """Idents as `as_whole` gives them, from -2^63 to 2^64 - 1 and all in int64 or all in uint64."""
+    return as_whole("idents", values, count, MIN_IDENT, MAX_IDENT)
 
 
 def as_work(values, count):

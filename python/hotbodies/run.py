@@ -12,7 +12,7 @@ from pathlib import Path
 from .bodies import body_bytes
 from .checks import as_masses, as_vectors
 from .forces import read_forces
-from .limits import MAX_LEAF, MAX_RANKS, MAX_RATIO_NUMBER
+from .limits import MAX_LEAF, MAX_MOMENTS, MAX_RANKS, MAX_RATIO_NUMBER
 
 VARIABLE = "HOT_PROGRAM"  # names the program to run
 STATUSES = {1: "not built", 2: "words refused", 3: "file refused", 4: "read fault", 5: "write fault", 6: "out of memory"}
@@ -143,7 +143,7 @@ def _number(name, value, most):
     return value
 
 
-def file_forces(data, scale, theta=0.7, softening=256, leaf=8, ranks=1, program=None, more=()):
+def file_forces(data, scale, theta=0.7, softening=256, leaf=8, ranks=1, program=None, *, moments=1, more=()):
     """The exact accelerations of the bodies of a body file.
 
     Args:
@@ -154,6 +154,7 @@ def file_forces(data, scale, theta=0.7, softening=256, leaf=8, ranks=1, program=
         leaf: the bodies up to which a cell is not parted, 1 to 64.
         ranks: the ranks over which the work is split, 1 to 64; they do not change the answer.
         program: as `find_program`.
+        moments: 2 where a cell pulls with its second moments too, at a ratio of at most 1; else 1.
         more: further words for the program.
 
     Returns:
@@ -165,12 +166,25 @@ def file_forces(data, scale, theta=0.7, softening=256, leaf=8, ranks=1, program=
         ProgramMissing: there is no program.
     """
     words = ["forces", "--theta", ratio_words(theta), "--eps", softening]
-    words += ["--leaf", _number("leaf", leaf, MAX_LEAF), "--ranks", _number("ranks", ranks, MAX_RANKS), *more]
+    words += ["--leaf", _number("leaf", leaf, MAX_LEAF), "--ranks", _number("ranks", ranks, MAX_RANKS)]
+    words += ["--moments", _number("moments", moments, MAX_MOMENTS), *more]
     return read_forces(run_program(words, data, program), scale)
 
 
 def accelerations(
-    positions, masses, theta=0.7, eps=0.0, G=1.0, ranks=1, program=None, *, leaf=8, loss=0.01, scale=None, exact=False
+    positions,
+    masses,
+    theta=0.7,
+    eps=0.0,
+    G=1.0,
+    ranks=1,
+    program=None,
+    *,
+    leaf=8,
+    moments=1,
+    loss=0.01,
+    scale=None,
+    exact=False,
 ):
     """The accelerations of bodies by their gravity on each other, computed by the proved program `hot`.
 
@@ -187,6 +201,8 @@ def accelerations(
         ranks: the ranks over which the work is split, 1 to 64; they do not change the answer.
         program: the path of the program; without one as `find_program`.
         leaf: the bodies up to which a cell is not parted, 1 to 64.
+        moments: 2 where a cell that acts as one body acts with its second moments (quadrupole) too; else 1. With 2 the
+            opening ratio is at most 1, and the program refuses others (`A8`).
         loss: the largest share of a mass, or by an estimate of the pull on a body, that whole numbers may lose.
         scale: a Scale to use in place of the one that loses least.
         exact: whether to give the program's whole numbers and their scale.
@@ -204,5 +220,5 @@ def accelerations(
     positions = as_vectors("positions", positions)
     masses = as_masses(masses, len(positions))
     data, scale = body_bytes(positions, masses, eps=eps, loss=loss, scale=scale)
-    found = file_forces(data, scale, theta, scale.softening(eps), leaf, ranks, program)
+    found = file_forces(data, scale, theta, scale.softening(eps), leaf, ranks, program, moments=moments)
     return found if exact else found.accelerations(G)

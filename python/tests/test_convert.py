@@ -154,6 +154,13 @@ class Commands(InFolder):
         self.assertEqual(lines[1], ["0/1", "0.00e+00", "0.00e+00", "0.00e+00"])
         self.assertEqual(lines[2][0], "7/10")
 
+    @with_program
+    def test_accuracy_of_second_moments(self):
+        write_table(self.path("a.npy"), BODIES)
+        status, out, err = self.run_main("accuracy", self.path("a.npy"), "--moments", "2", "--program", built_program())
+        self.assertEqual((status, err), (0, ""))
+        self.assertEqual([line.split()[0] for line in out.splitlines()], ["ratio", "1/10", "3/10", "1/2", "7/10", "9/10"])
+
 
 if __name__ == "__main__":
     unittest.main()

@@ -64,7 +64,8 @@ class Calls(unittest.TestCase):
                 ratio_words(theta)
 
     def test_options_out_of_range(self):
-        for name, value in (("leaf", 0), ("leaf", 65), ("leaf", 1.0), ("ranks", 65), ("ranks", True), ("eps", -1)):
+        cases = [("leaf", 0), ("leaf", 65), ("leaf", 1.0), ("ranks", 65), ("ranks", True), ("moments", 3), ("eps", -1)]
+        for name, value in cases:
             with self.subTest(name), self.assertRaisesRegex(ValueError, f"{name} is {value}"):
                 accelerations([[0, 0, 0]], 1.0, **{name: value}, program=sys.executable)
 
@@ -103,6 +104,22 @@ class Answers(unittest.TestCase):
                 with self.subTest(name, theta=theta):
                     found = accelerations(positions, masses, theta, 0.02, program=self.program)
                     self.assertLess(Errors.of(relative_errors(found, truth)).most, most)
+
+    def test_second_moments(self):
+        """At a ratio of 1/2 they bring the median to less than half, and at 0, where no cell pulls, they change nothing."""
+        for name, make in SAMPLES.items():
+            with self.subTest(name):
+                positions, masses = make(300, 11)
+                truth = direct_accelerations(positions, masses, 0.02)
+                first, second = (
+                    accelerations(positions, masses, 0.5, 0.02, moments=moments, program=self.program) for moments in (1, 2)
+                )
+                medians = [Errors.of(relative_errors(found, truth)).median for found in (first, second)]
+                self.assertLess(medians[1], medians[0] / 2)
+                pairs = [accelerations(positions, masses, 0, moments=moments, program=self.program) for moments in (1, 2)]
+                np.testing.assert_array_equal(*pairs)
+        with self.assertRaisesRegex(ProgramError, "A8 ratio above 1 with --moments 2"):
+            accelerations([[0, 0, 0]], 1.0, 1.5, moments=2, program=self.program)
 
     def test_units_and_ranks_and_order_do_not_matter(self):
         positions, masses = SAMPLES["two clusters"](300, 2)
