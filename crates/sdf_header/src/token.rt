@@ -8,7 +8,7 @@ use crate::fault::{Fault, FaultKind};
 use crate::limits::MAX_TEXT_BYTES;
 use crate::number::{Class, begins_with, number, run};
 
-#[derive(Clone, Copy, Debug)]
+#[derive(Clone, Copy)]
 pub enum Token<'a> {
     Word(&'a [u8]),
     /// A number, with its value where it is whole.
@@ -19,7 +19,7 @@ pub enum Token<'a> {
 }
 
 /// A token, the text from its first byte on, and the text behind it.
-#[derive(Clone, Copy, Debug)]
+#[derive(Clone, Copy)]
 pub struct Lexed<'a> {
     pub token: Token<'a>,
     pub start: &'a [u8],
