@@ -12,6 +12,7 @@ use Rattle.cell_mail.specs.Grammar.{rise_above, ascend, is_clear, apart, IsRecor
 use Rattle.cell_mail.specs.Merging.{skip_below, starts, meets, none_meet}
 use Rattle.cell_mail.proofs.Checks.{both, both_true, ltb_lt, or_cases}
 
+-- the number stands in the list
 abbrev pub In : ℕ → List ℕ → Type 0
 In x [] = ⊥
 In x (y ∷ ys) = (x ≡ y) ⊎ In x ys
@@ -127,6 +128,7 @@ and_false : (a b : Bool) → (a && b) ≡ false → (a ≡ false) ⊎ (b ≡ fal
 and_false true b e = inr e
 and_false false b e = inl refl
 
+-- where no two cells meet over all levels, none do at one of them
 pub none_meet-all : (n d : ℕ) (ks : List ℕ) → none_meet n ks ≡ true → 1 ≤ d → d ≤ n → meets (8 ^ d) ks ks ≡ false
 unfolding none_meet
 none_meet-all zero d ks e l h = absurd (omega arith)
@@ -239,55 +241,67 @@ same_bool false false f g = refl
 pub passes-are-apart : (ks : List ℕ) → ((k : ℕ) → In k ks → IsCell k) → rise_above 0 ks ≡ true → none_meet max_level ks ≡ apart ks
 passes-are-apart ks cells rises = same_bool (none_meet max_level ks) (apart ks) (passes-then ks cells rises) (apart-then ks cells)
 
+-- each number in a list of cells is a cell
 pub cells-in : (ks : List ℕ) → AllByRecursion IsCell ks → (k : ℕ) → In k ks → IsCell k
 cells-in [] h k i = absurd i
 cells-in (x ∷ xs) h k i = elim i [ inl e ↦ subst IsCell (sym e) h.0 | inr j ↦ cells-in xs h.1 k j ]
 
+-- the keys of records are cells
 pub records-are-cells : (cs : List CellValue) → AllByRecursion IsRecord cs → AllByRecursion IsCell (map (λ c. c.key) cs)
 records-are-cells [] h = tt
 records-are-cells (c ∷ cs) h = (h.0.facts.cell, records-are-cells cs h.1)
 
 -- ---- the passes as loops
 
+-- numbers below the wanted one are passed over
 pub skip-goes_on : (w : ℕ) (left more : List ℕ) (c : ℕ) (total : List ℕ) → left ≡ c ∷ more → c < w → skip_below w left ≡ total → skip_below w more ≡ total
 unfolding skip_below
 skip-goes_on w left more c total e h s = rw (e, lt-ltb _ _ h) at s
 
+-- at the first number that is not below, nothing is passed over
 pub skip-stops : (w : ℕ) (left more : List ℕ) (c : ℕ) (total : List ℕ) → left ≡ c ∷ more → w ≤ c → skip_below w left ≡ total → left ≡ total
 unfolding skip_below
 skip-stops w left more c total e h s = rw e (rw (e, le-ltb _ _ h) at s)
 
+-- of no numbers nothing is passed over
 pub skip-ends : (w : ℕ) (left : List ℕ) (total : List ℕ) → left ≡ [] → skip_below w left ≡ total → left ≡ total
 unfolding skip_below
 skip-ends w left total e s = rw e (rw e at s)
 
+-- over no levels no two cells meet
 pub none_meet-zero : (ks : List ℕ) → none_meet 0 ks ≡ true
 unfolding none_meet
 none_meet-zero ks = refl
 
+-- a number whose prefix stands in the list meets it
 pub meets-stops : (p : ℕ) (left more : List ℕ) (c : ℕ) (rest after : List ℕ) (total : Bool) → left ≡ c ∷ more → after ≡ skip_below (c / p) rest → starts (c / p) after ≡ true
     → meets p left rest ≡ total → true ≡ total
 unfolding meets
 meets-stops p left more c rest after total e a h s = let f : starts (c / p) (skip_below (c / p) rest) ≡ true = subst (λ (l : List ℕ). starts (c / p) l ≡ true) a h in rw (e, f) at s
 
+-- behind a number whose prefix does not, the rest decides
 pub meets-goes_on : (p : ℕ) (left more : List ℕ) (c : ℕ) (rest after : List ℕ) (total : Bool) → left ≡ c ∷ more → after ≡ skip_below (c / p) rest → starts (c / p) after ≡ false
     → meets p left rest ≡ total → meets p more after ≡ total
 unfolding meets
 meets-goes_on p left more c rest after total e a h s = let f : starts (c / p) (skip_below (c / p) rest) ≡ false = subst (λ (l : List ℕ). starts (c / p) l ≡ false) a h in rw a (rw (e, f) at s)
 
+-- no numbers meet nothing
 pub meets-ends : (p : ℕ) (left : List ℕ) (rest : List ℕ) (total : Bool) → left ≡ [] → meets p left rest ≡ total → false ≡ total
 unfolding meets
 meets-ends p left rest total e s = rw e at s
 
+-- one more level without a meeting
 pub none_meet-more : (n : ℕ) (ks : List ℕ) → none_meet n ks ≡ true → meets (8 ^ (n + 1)) ks ks ≡ false → none_meet (n + 1) ks ≡ true
 unfolding none_meet
 none_meet-more n ks e f = rw (add-one, e, rw add-one at f) refl
 
+-- a meeting at one level is one over all
 pub none_meet-not : (n : ℕ) (ks : List ℕ) → n < max_level → meets (8 ^ (n + 1)) ks ks ≡ true → false ≡ none_meet max_level ks
 none_meet-not n ks lt e = elim (none_meet max_level ks) as (λ (b : Bool). none_meet max_level ks ≡ b → false ≡ b) [
   | true ↦ λ f. absurd (let g : true ≡ false = sym e ∙ none_meet-all max_level (n + 1) ks f (omega arith) (omega arith) in cc)
   | false ↦ λ f. refl
 ] refl
 
+-- cells that ascend are apart where no two meet at any level
 pub good_branches : (ks : List ℕ) (r : Bool) → AllByRecursion IsCell ks → ascend ks ≡ true → r ≡ none_meet max_level ks → r ≡ (ascend ks && apart ks)
 good_branches ks r h e n = rw e (n ∙ passes-are-apart ks (cells-in ks h) e)

@@ -14,16 +14,20 @@ use Rattle.cell_mail.specs.Grammar.{IsRecord, IsSent, IsBelowRoot}
 use Rattle.cell_mail.specs.Reading.{cell_below, is_cell, is_below_root, is_first, is_second, firsts_fit, seconds_fit, is_record, with_sums, is_sent}
 use Rattle.cell_mail.specs.Spelling.{sums_of}
 
+-- both parts of a conjunction that holds hold
 pub both : (a b : Bool) → (a && b) ≡ true → (a ≡ true) × (b ≡ true)
 both true b e = (refl, e)
 both false b e = absurd cc
 
+-- a conjunction of what holds holds
 pub both_true : (a b : Bool) → a ≡ true → b ≡ true → (a && b) ≡ true
 both_true a b e f = rw (e, f) refl
 
+-- a test of order that passes is an order
 pub leb_le : (m n : ℕ) → leb m n ≡ true → m ≤ n
 leb_le m n e = elim (cases_lt n m) [ inl lt ↦ absurd (let f : false ≡ true = rw (lt-leb _ _ lt) at e in cc) | inr le ↦ le ]
 
+-- a test of strict order that passes is a strict order
 pub ltb_lt : (m n : ℕ) → ltb m n ≡ true → m < n
 ltb_lt m n e = elim (cases_lt m n) [ inl lt ↦ lt | inr le ↦ absurd (let f : false ≡ true = rw (le-ltb _ _ le) at e in cc) ]
 
@@ -41,6 +45,7 @@ quotient_is_one k p pos l h =
     let b : k < (1 + 1) * p = omega arith in
     div-eq_of_lt-le p a b
 
+-- of a disjunction that holds one part does
 pub or_cases : (a b : Bool) → (a || b) ≡ true → (a ≡ true) ⊎ (b ≡ true)
 or_cases true b e = inl refl
 or_cases false b e = inr e
@@ -72,18 +77,23 @@ cell-finds (suc n) k l lt h =
           or_right (cell_below n k) (eqb (k / 8 ^ n) 1) (rw (← e) (eq-eqb _ _ (quotient_is_one k (8 ^ l) (eight_pow_pos l) h.0 h.1)))
     ]
 
+-- what passes as a cell is one
 pub is_cell-is : (k : ℕ) → is_cell k ≡ true → IsCell k
 is_cell-is k e = let h = cell-found (suc max_level) k e in (h.0, omega (arith, h.1), h.2)
 
+-- a cell passes as one
 pub is_cell-back : (k : ℕ) → IsCell k → is_cell k ≡ true
 is_cell-back k c = cell-finds (suc max_level) k c.0 (omega (arith, c.1)) c.2
 
+-- a cell fits eight bytes
 pub cell-small : (k : ℕ) → IsCell k → k < 256 ^ 8
 cell-small k c = let h : 8 ^ c.0 ≤ 8 ^ 21 = eight_pow_le c.0 21 c.1 in omega (arith, h, c.2.1)
 
+-- what passes as below the root is a cell below it
 pub below_root-is : (k : ℕ) → is_below_root k ≡ true → IsBelowRoot k
 below_root-is k e = let b = both (is_cell k) (leb 8 k) e in (is_cell-is k b.0, leb_le 8 k b.1)
 
+-- a cell below the root passes as one
 pub below_root-back : (k : ℕ) → IsBelowRoot k → is_below_root k ≡ true
 below_root-back k h = both_true (is_cell k) (leb 8 k) (is_cell-back k h.0) (le-leb _ _ h.1)
 
@@ -145,6 +155,7 @@ seconds-back c h =
     both_true _ _ (second-back _ _ _ _ _ _ _ h.xx_in) (both_true _ _ (second-back _ _ _ _ _ _ _ h.yy_in) (both_true _ _ (second-back _ _ _ _ _ _ _ h.zz_in)
     (both_true _ _ (second-back _ _ _ _ _ _ _ h.xy_in) (both_true _ _ (second-back _ _ _ _ _ _ _ h.xz_in) (second-back _ _ _ _ _ _ _ h.yz_in)))))
 
+-- what passes as a record is one
 pub is_record-is : (c : CellValue) → is_record c ≡ true → IsRecord c
 unfolding is_record
 is_record-is c e =
@@ -172,6 +183,7 @@ is_record-is c e =
       few = leb_le _ _ d.0;
     }
 
+-- a record passes as one
 pub is_record-back : (c : CellValue) → IsRecord c → is_record c ≡ true
 unfolding is_record
 is_record-back c h =
@@ -181,6 +193,7 @@ is_record-back c h =
     (firsts-back c (record { x_in = f.x_in; y_in = f.y_in; z_in = f.z_in }))
     (seconds-back c (record { xx_in = f.xx_in; yy_in = f.yy_in; zz_in = f.zz_in; xy_in = f.xy_in; xz_in = f.xz_in; yz_in = f.yz_in })))))))
 
+-- what passes as a record of these sums has the facts of a record
 pub is_record-facts : (key count mass : ℕ) (s : List ℕ) → is_record (with_sums key count mass s) ≡ true → IsCellRecord (with_sums key count mass s)
 is_record-facts key count mass s e = (is_record-is (with_sums key count mass s) e).facts
 
@@ -194,6 +207,7 @@ first-small m k w s h a b e =
 corner-small : (c axis : ℕ) → IsCell c → (corner_along c axis < 2 ^ 29) × (extent c < 2 ^ 29)
 corner-small c axis i = let b = box_in_cube c axis i in (omega (arith, b), omega (arith, b))
 
+-- first sums that fit their cell are small
 pub firsts-small : (key mass : ℕ) (s : List ℕ) → IsCell key → mass ≤ 2 ^ 40 → firsts_fit key mass s ≡ true → (slice_index s 0 ≤ 2 ^ 70) × (slice_index s 1 ≤ 2 ^ 70) × (slice_index s 2 ≤ 2 ^ 70)
 unfolding firsts_fit
 firsts-small key mass s i h e =
@@ -221,17 +235,20 @@ second-past m k l w s t q h a b d f g e =
     and_false true = refl
     and_false false = refl
 
+-- what passes as a body is one
 pub is_sent-is : (b : BodyValue) → is_sent b ≡ true → IsSent b
 unfolding is_sent
 is_sent-is b e =
     let a = both _ _ e in let c = both _ _ a.1 in let d = both _ _ c.1 in let f = both _ _ d.1 in let g = both _ _ f.1 in
     record { x_in = ltb_lt _ _ a.0; y_in = ltb_lt _ _ c.0; z_in = ltb_lt _ _ d.0; weighs = leb_le _ _ f.0; light = leb_le _ _ g.0; row_in = ltb_lt _ _ g.1 }
 
+-- a body passes as one
 pub is_sent-back : (b : BodyValue) → IsSent b → is_sent b ≡ true
 unfolding is_sent
 is_sent-back b h =
     both_true _ _ (lt-ltb _ _ h.x_in) (both_true _ _ (lt-ltb _ _ h.y_in) (both_true _ _ (lt-ltb _ _ h.z_in) (both_true _ _ (le-leb _ _ h.weighs) (both_true _ _ (le-leb _ _ h.light) (lt-ltb _ _ h.row_in)))))
 
+-- what passes as a body has the facts of a body
 pub is_sent-facts : (x y z mass row : ℕ) → is_sent (record { x = x; y = y; z = z; mass = mass; row = row }) ≡ true → (x < 2 ^ fine_bits) × (y < 2 ^ fine_bits) × (z < 2 ^ fine_bits) × (1 ≤ mass) × (mass ≤ max_body_mass)
 is_sent-facts x y z mass row e = let h = is_sent-is (record { x = x; y = y; z = z; mass = mass; row = row }) e in (h.x_in, h.y_in, h.z_in, h.weighs, h.light)
 

@@ -26,6 +26,7 @@ use Rattle.cell_mail.proofs.Apart.{records-are-cells}
 
 -- ---- a row as a loop
 
+-- behind an element that may stand there the rest decides
 pub row-goes_on : {X : Type 0} (stands : Option X → X → Bool) (r : Reader X) (count i : ℕ) (last : Option X) (bytes : List ℕ) (x : X) (after : List ℕ) (total : Option (List ℕ)) → i < count → r bytes ≡ Some (x, after) → stands last x ≡ true
     → row_past stands r (count - i) last bytes ≡ total → row_past stands r (count - (i + 1)) (Some x) after ≡ total
 unfolding row_past
@@ -34,6 +35,7 @@ row-goes_on stands r count i last bytes x after total lt h t so_far =
     let one : row_past stands r (count - i) last bytes ≡ row_past stands r (count - (i + 1)) (Some x) after = rw (k, h, t) refl in
     sym one ∙ so_far
 
+-- one that may not stand there ends the row
 pub row-stops : {X : Type 0} (stands : Option X → X → Bool) (r : Reader X) (count i : ℕ) (last : Option X) (bytes : List ℕ) (x : X) (after : List ℕ) (total : Option (List ℕ)) → i < count → r bytes ≡ Some (x, after) → stands last x ≡ false
     → row_past stands r (count - i) last bytes ≡ total → total ≡ None
 unfolding row_past
@@ -42,6 +44,7 @@ row-stops stands r count i last bytes x after total lt h t so_far =
     let one : row_past stands r (count - i) last bytes ≡ None = rw (k, h, t) refl in
     sym so_far ∙ one
 
+-- one that is not read ends the row
 pub row-ends : {X : Type 0} (stands : Option X → X → Bool) (r : Reader X) (e : LetterError) (count i : ℕ) (last : Option X) (bytes : List ℕ) (total : Option (List ℕ)) → i < count → Fails e (r bytes)
     → row_past stands r (count - i) last bytes ≡ total → Fails e total
 unfolding row_past
@@ -51,6 +54,7 @@ row-ends stands r errors.NotALetter count i last bytes total lt h so_far =
     let one : row_past stands r (count - i) last bytes ≡ None = rw (k, h) refl in
     sym so_far ∙ one
 
+-- with all elements passed the rest is the answer
 pub row-is_done : {X : Type 0} (stands : Option X → X → Bool) (r : Reader X) (count i : ℕ) (last : Option X) (bytes : List ℕ) (total : Option (List ℕ)) → count ≤ i → row_past stands r (count - i) last bytes ≡ total → total ≡ Some bytes
 unfolding row_past
 row-is_done stands r count i last bytes total le so_far =
@@ -265,6 +269,7 @@ heading-tested true (Some c) = refl
 heading-tested false (Some c) = refl
 heading-tested b None = refl
 
+-- the head of a letter is that of the letter read without its rules
 pub skimmed-is : (bytes : List ℕ) → skimmed_at bytes ≡ heading (unchecked_at bytes)
 unfolding skimmed_at unchecked_at
 skimmed-is bytes =
@@ -303,6 +308,7 @@ whole-tested : (read : Option (Content × List ℕ)) → (heading read >>= λ x.
 whole-tested (Some c) = rw (good-same c.0) (both-tested (good_content c.0) c.0 c.1)
 whole-tested None = refl
 
+-- a letter is skimmed as it is read, in short
 pub skimming-is : (bytes : List ℕ) → skimming bytes ≡ (reading bytes >>= λ c. some (short c))
 unfolding skimming reading content_at
 skimming-is bytes =

@@ -19,6 +19,7 @@ found_at : (b : Bool) (n i : ℕ) → cond b (Some n) None ≡ Some i → i ≡ 
 found_at true n i e = cc
 found_at false n i e = cc
 
+-- the place of a name that is found is the first one
 pub position-is : (files : List NamedBytes) (name : List ℕ) (i : ℕ) → position (is_named name) files ≡ Some i → i ≡ position_or_len (is_named name) files
 position-is files name i e = found_at (nat_lt (position_or_len (is_named name) files) (length files)) (position_or_len (is_named name) files) i e
 
@@ -45,6 +46,7 @@ puts_at : (old new : List NamedBytes) (name bytes : List ℕ) → file_of new na
 puts_at old new name bytes same others query true e = rw (← (bytes_eq-Decides name query).0 e) same
 puts_at old new name bytes same others query false e = others query e
 
+-- what gives a name its bytes and leaves all other names puts the file
 pub PutsFile-of : (old new : List NamedBytes) (name bytes : List ℕ) → file_of new name ≡ Some bytes → ((query : List ℕ) → bytes_eq name query ≡ false → file_of new query ≡ file_of old query) → PutsFile old new name bytes
 PutsFile-of old new name bytes same others query = puts_at old new name bytes same others query (bytes_eq name query) refl
 
@@ -71,6 +73,7 @@ or_none : (o : Option NamedBytes) → option_or o None ≡ o
 or_none None = refl
 or_none (Some g) = refl
 
+-- a file with a new name at the end of the list is put there
 pub PutsFile-push : (files : List NamedBytes) (f : NamedBytes) → file_of files f.name ≡ None → PutsFile files (files ++ f ∷ []) f.name f.bytes
 PutsFile-push files f e =
     PutsFile-of files (files ++ f ∷ []) f.name f.bytes

@@ -9,6 +9,7 @@ use Rattle.hot_io.proofs.Texts.{WritesFront, cut_in_part}
 abbrev pub bytes_in : List (Bor (List ℕ)) → List ℕ
 bytes_in pieces = joined (map (λ piece. piece.now) pieces)
 
+-- the bytes of two lists of pieces are both joined
 pub bytes_in-append : (xs ys : List (Bor (List ℕ))) → bytes_in (xs ++ ys) ≡ bytes_in xs ++ bytes_in ys
 bytes_in-append [] ys = refl
 bytes_in-append (x ∷ xs) ys = ap (λ l. x.now ++ l) (bytes_in-append xs ys) ∙ sym (append_assoc x.now (bytes_in xs) (bytes_in ys))

@@ -36,9 +36,11 @@ writes_next old mid new (Err x) text more a w =
 pub behind_one : (a b c d e : List ℕ) → a ++ b ++ c ++ d ++ e ≡ a ++ (b ++ (c ++ (d ++ e)))
 behind_one a b c d e = simp append_assoc
 
+-- five texts joined, behind the first two
 pub behind_two : (a b c d e : List ℕ) → a ++ b ++ c ++ d ++ e ≡ (a ++ b) ++ (c ++ (d ++ e))
 behind_two a b c d e = simp append_assoc
 
+-- five texts joined, behind the first three
 pub behind_three : (a b c d e : List ℕ) → a ++ b ++ c ++ d ++ e ≡ (a ++ b ++ c) ++ (d ++ e)
 behind_three a b c d e = simp append_assoc
 

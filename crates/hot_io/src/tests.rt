@@ -5,7 +5,7 @@ use super::*;
 use std::alloc::{AllocError, Global};
 use std::fs;
 use std::fs::File;
-use std::io::BufWriter;
+use std::io::{BufWriter, Write};
 use std::test::Fail;
 
 // What a source gave: how many bytes each read, the bytes together, and whether the last read
@@ -15,6 +15,14 @@ struct Given {
     counts: Vec<usize>,
     bytes: Vec<u8>,
     failed: bool,
+}
+
+impl Given {
+    fn is(&self, counts: &[usize], text: &str, failed: bool) -> bool {
+        self.counts.as_slice() == counts
+            && self.bytes.as_slice() == text.as_bytes()
+            && self.failed == failed
+    }
 }
 
 // Reads an open file to its end or a fault, into a buffer of 1 to 16 bytes.
@@ -57,40 +65,67 @@ fn two_files(alloc: Global, chunk: usize, stop: Option<u64>) -> Result<MemSource
     Ok(source)
 }
 
+// What the source of two files gives of one of them, if it opens that.
+fn memory_gives(
+    alloc: Global,
+    chunk: usize,
+    stop: Option<u64>,
+    room: usize,
+    name: &str,
+) -> Result<Option<Given>, AllocError> {
+    let mut source = two_files(alloc, chunk, stop)?;
+    if source.open(name).is_err() {
+        return Ok(None);
+    }
+    let given = read_all(alloc, &mut source, room)?;
+    Ok(Some(given))
+}
+
 #[test]
 fn memory_gives_its_files(rt: HostRuntime) -> Result<(), Fail> {
-    let cases: [(usize, Option<u64>, usize, &str, &[usize], &str, bool); 10] = [
-        (
-            1,
-            None,
-            4,
-            "bodies",
-            &[1, 1, 1, 1, 1, 1, 1, 0],
-            "gravity",
-            false,
-        ),
-        (3, None, 16, "bodies", &[3, 3, 1, 0], "gravity", false),
-        (16, None, 2, "bodies", &[2, 2, 2, 1, 0], "gravity", false),
-        (16, None, 16, "-", &[4, 0], "tree", false),
-        (16, Some(0), 16, "bodies", &[], "", true),
-        (3, Some(4), 16, "bodies", &[3, 1], "grav", true),
-        (1, Some(6), 4, "bodies", &[1, 1, 1, 1, 1, 1], "gravit", true),
-        (16, Some(7), 16, "bodies", &[7], "gravity", true),
-        (16, Some(8), 16, "bodies", &[7, 0], "gravity", false),
-        (1, Some(4), 1, "-", &[1, 1, 1, 1], "tree", true),
+    let cases: [(usize, usize, &str, &[usize], &str); 4] = [
+        (1, 4, "bodies", &[1, 1, 1, 1, 1, 1, 1, 0], "gravity"),
+        (3, 16, "bodies", &[3, 3, 1, 0], "gravity"),
+        (16, 2, "bodies", &[2, 2, 2, 1, 0], "gravity"),
+        (16, 16, "-", &[4, 0], "tree"),
     ];
-    for (chunk, stop, room, name, counts, text, failed) in cases {
-        let mut source = two_files(rt.alloc(), chunk, stop)?;
-        let opened = source.open(name);
-        assert!(rt; opened.is_ok(), "{name}");
-        let given = read_all(rt.alloc(), &mut source, room)?;
-        assert_eq!(rt; given.counts.as_slice(), counts, "{text}");
-        assert_eq!(rt; given.bytes.as_slice(), text.as_bytes());
-        assert_eq!(rt; given.failed, failed, "{text}");
+    for (chunk, room, name, counts, text) in cases {
+        let given = memory_gives(rt.alloc(), chunk, None, room, name)?;
+        assert!(rt;
+            given.is_some_and(|it| it.is(counts, text, false)),
+            "{name} by {chunk}"
+        );
     }
+    Ok(())
+}
+
+#[test]
+fn memory_stops_where_it_is_told(rt: HostRuntime) -> Result<(), Fail> {
+    let cases: [(usize, u64, &str, &[usize], &str, bool); 6] = [
+        (16, 0, "bodies", &[], "", true),
+        (3, 4, "bodies", &[3, 1], "grav", true),
+        (1, 6, "bodies", &[1, 1, 1, 1, 1, 1], "gravit", true),
+        (16, 7, "bodies", &[7], "gravity", true),
+        (16, 8, "bodies", &[7, 0], "gravity", false),
+        (1, 4, "-", &[1, 1, 1, 1], "tree", true),
+    ];
+    for (chunk, stop, name, counts, text, failed) in cases {
+        let given = memory_gives(rt.alloc(), chunk, Some(stop), 16, name)?;
+        assert!(rt;
+            given.is_some_and(|it| it.is(counts, text, failed)),
+            "{name} up to {stop}"
+        );
+    }
+    Ok(())
+}
+
+#[test]
+fn memory_opens_its_files_alone(rt: HostRuntime) -> Result<(), Fail> {
     for name in ["bodie", "bodies ", "", "forgotten"] {
-        let mut source = two_files(rt.alloc(), 1, None)?;
-        assert!(rt; source.open(name).is_err(), "{name}");
+        assert!(rt;
+            memory_gives(rt.alloc(), 1, None, 16, name)?.is_none(),
+            "{name}"
+        );
     }
     Ok(())
 }
@@ -100,14 +135,28 @@ fn a_stop_counts_over_all_files(rt: HostRuntime) -> Result<(), Fail> {
     let mut source = two_files(rt.alloc(), 16, Some(9))?;
     let mut buf = [0; 16];
     assert!(rt; source.open("bodies").is_ok());
-    assert_eq!(rt; source.read(&mut buf), Ok(7));
-    assert_eq!(rt; source.read(&mut buf), Ok(0));
+    assert!(rt; matches!(source.read(&mut buf), Ok(7)));
+    assert!(rt; matches!(source.read(&mut buf), Ok(0)));
     source.add("bodies", b"orbit")?;
     assert!(rt; source.open("bodies").is_ok());
-    assert_eq!(rt; source.read(&mut buf), Ok(2));
-    assert_eq!(rt; buf.as_slice(), b"oravity\0\0\0\0\0\0\0\0\0".as_slice());
-    assert_eq!(rt; source.read(&mut buf), Err(Failed));
+    assert!(rt; matches!(source.read(&mut buf), Ok(2)));
+    assert!(rt; buf.starts_with(b"oravity\0"));
+    assert!(rt; matches!(source.read(&mut buf), Err(Failed)));
     Ok(())
+}
+
+// Whether a sink of so much room takes this front of four pieces, and fails or not.
+fn takes(
+    alloc: Global,
+    chunk: usize,
+    room: u64,
+    text: &str,
+    failed: bool,
+) -> Result<bool, AllocError> {
+    let mut sink = MemSink::new(alloc, chunk.max(1), room.min(MAX_ROOM))?;
+    let pieces: [&[u8]; 4] = [b"two", b"", b" ", b"bodies"];
+    let outcome = write_pieces(&mut sink, &pieces);
+    Ok(outcome.is_err() == failed && sink.written() == text.as_bytes())
 }
 
 #[test]
@@ -122,17 +171,32 @@ fn memory_takes_what_it_has_room_for(rt: HostRuntime) -> Result<(), Fail> {
         (3, 64, "two bodies", false),
     ];
     for (chunk, room, text, failed) in cases {
-        let mut sink = MemSink::new(rt.alloc(), chunk.max(1), room.min(MAX_ROOM))?;
-        let pieces: [&[u8]; 4] = [b"two", b"", b" ", b"bodies"];
-        assert_eq!(rt; write_pieces(&mut sink, &pieces).is_err(), failed, "{text}");
-        assert_eq!(rt; sink.written(), text.as_bytes());
+        assert!(rt;
+            takes(rt.alloc(), chunk, room, text, failed)?,
+            "{room} by {chunk}"
+        );
     }
-    let mut sink = MemSink::new(rt.alloc(), 2, 6)?;
-    assert_eq!(rt; sink.write(b"key"), Ok(2));
-    assert_eq!(rt; write_all(&mut sink, b"s"), Ok(()));
-    assert_eq!(rt; write_text(&mut sink, &[b" of all"]), Err(Failed));
-    assert_eq!(rt; sink.written(), b"kes of".as_slice());
     Ok(())
+}
+
+#[test]
+fn memory_takes_piece_by_piece(rt: HostRuntime) -> Result<(), Fail> {
+    let mut sink = MemSink::new(rt.alloc(), 2, 6)?;
+    assert!(rt; sink.write(b"key") == Ok(2));
+    assert!(rt; write_all(&mut sink, b"s") == Ok(()));
+    assert!(rt; write_text(&mut sink, &[b" of all"]) == Err(Failed));
+    assert!(rt; sink.written() == b"kes of".as_slice());
+    Ok(())
+}
+
+// Whether a sink of so much room takes this front of a line, and fails or not.
+fn takes_a_line(alloc: Global, room: u64, text: &str, failed: bool) -> Result<bool, AllocError> {
+    let mut line = Line::new();
+    line.add("rank ", 3_u32);
+    line.add(" sum ", -7_i128);
+    let mut sink = MemSink::new(alloc, 4, room.min(MAX_ROOM))?;
+    let outcome = line.write(&mut sink);
+    Ok(outcome.is_err() == failed && sink.written() == text.as_bytes())
 }
 
 #[test]
@@ -142,18 +206,23 @@ fn a_line_of_words_and_numbers(rt: HostRuntime) -> Result<(), Fail> {
         (13, "rank 3 sum -7", true),
         (0, "", true),
     ] {
-        let mut line = Line::new();
-        line.add("rank ", 3_u32);
-        line.add(" sum ", -7_i128);
-        let mut sink = MemSink::new(rt.alloc(), 4, room)?;
-        assert_eq!(rt; line.write(&mut sink).is_err(), failed, "{text}");
-        assert_eq!(rt; sink.written(), text.as_bytes());
+        assert!(rt; takes_a_line(rt.alloc(), room, text, failed)?, "{room}");
     }
     Ok(())
 }
 
+// What the system gives of a file, if it opens that.
+fn system_gives(rt: &HostRuntime, name: &str, room: usize) -> Result<Option<Given>, AllocError> {
+    let mut source = FileSource::new(rt);
+    if source.open(name).is_err() {
+        return Ok(None);
+    }
+    let given = read_all(rt.alloc(), &mut source, room)?;
+    Ok(Some(given))
+}
+
 #[test]
-fn the_system_gives_and_takes(rt: HostRuntime) -> Result<(), Fail> {
+fn the_system_gives(rt: HostRuntime) -> Result<(), Fail> {
     fs::write(&rt, "rows.sdf", "rows and rows")?;
     let cases: [(&str, usize, &[usize], &str, bool); 3] = [
         ("rows.sdf", 5, &[5, 5, 3, 0], "rows and rows", false),
@@ -161,44 +230,49 @@ fn the_system_gives_and_takes(rt: HostRuntime) -> Result<(), Fail> {
         (".", 16, &[], "", true),
     ];
     for (name, room, counts, text, failed) in cases {
-        let mut source = FileSource::new(&rt);
-        let opened = source.open(name);
-        assert!(rt; opened.is_ok(), "{name}");
-        let given = read_all(rt.alloc(), &mut source, room)?;
-        assert_eq!(rt; given.counts.as_slice(), counts, "{name}");
-        assert_eq!(rt; given.bytes.as_slice(), text.as_bytes());
-        assert_eq!(rt; given.failed, failed, "{name}");
+        let given = system_gives(&rt, name, room)?;
+        assert!(rt;
+            given.is_some_and(|it| it.is(counts, text, failed)),
+            "{name}"
+        );
     }
-    assert!(rt; FileSource::new(&rt).open("nowhere").is_err());
-
-    let mut out = OutSink::new(File::create(&rt, "out.txt")?);
-    assert_eq!(rt; write_all(&mut out, b"forces"), Ok(()));
-    let mut err = ErrSink::new(File::create(&rt, "err.txt")?);
-    assert_eq!(rt;
-        write_text(&mut err, &[b"hot: ", b"", b"write fault"]),
-        Ok(())
-    );
-    assert_eq!(rt; fs::read(&rt, "out.txt")?.as_slice(), b"forces".as_slice());
-    assert_eq!(rt;
-        fs::read(&rt, "err.txt")?.as_slice(),
-        b"hot: write fault".as_slice()
-    );
-    for name in ["rows.sdf", "out.txt", "err.txt"] {
-        fs::remove_file(&rt, name)?;
-    }
+    assert!(rt; system_gives(&rt, "nowhere", 16)?.is_none());
+    fs::remove_file(&rt, "rows.sdf")?;
     Ok(())
+}
+
+#[test]
+fn the_system_takes(rt: HostRuntime) -> Result<(), Fail> {
+    let mut out = OutSink::new(File::create(&rt, "out.txt")?);
+    assert!(rt; write_all(&mut out, b"forces").is_ok());
+    let mut err = ErrSink::new(File::create(&rt, "err.txt")?);
+    assert!(rt; write_text(&mut err, &[b"hot: ", b"", b"write fault"]).is_ok());
+    assert!(rt; fs::read(&rt, "out.txt")?.as_slice() == b"forces".as_slice());
+    assert!(rt; fs::read(&rt, "err.txt")?.as_slice() == b"hot: write fault".as_slice());
+    fs::remove_file(&rt, "out.txt")?;
+    fs::remove_file(&rt, "err.txt")?;
+    Ok(())
+}
+
+// Whether a writer that takes nothing is told by the sink at once.
+fn is_refused<W: Write + Drop>(writer: W) -> bool {
+    let mut out = OutSink::new(writer);
+    out.write(b"f") == Err(Failed)
 }
 
 // A full device refuses each write, and a buffer before it hides that until it is flushed.
 #[test]
 fn no_fault_hides_in_a_buffer(rt: HostRuntime) -> Result<(), Fail> {
-    let mut plain = OutSink::new(File::create(&rt, "/dev/full")?);
-    assert_eq!(rt; plain.write(b"f"), Err(Failed));
-    let mut out = OutSink::new(BufWriter::new(rt.alloc(), File::create(&rt, "/dev/full")?)?);
-    assert_eq!(rt; out.write(b"f"), Err(Failed));
+    assert!(rt; is_refused(File::create(&rt, "/dev/full")?));
+    assert!(rt; is_refused(BufWriter::new(rt.alloc(), File::create(&rt, "/dev/full")?)?));
+    let none: &mut [u8] = &mut [];
+    assert!(rt; is_refused(none));
+    Ok(())
+}
+
+#[test]
+fn no_fault_of_errors_hides_in_a_buffer(rt: HostRuntime) -> Result<(), Fail> {
     let mut err = ErrSink::new(BufWriter::new(rt.alloc(), File::create(&rt, "/dev/full")?)?);
-    assert_eq!(rt; write_all(&mut err, b"hot: "), Err(Failed));
-    let mut none: &mut [u8] = &mut [];
-    assert_eq!(rt; OutSink::new(none).write(b"f"), Err(Failed));
+    assert!(rt; write_all(&mut err, b"hot: ") == Err(Failed));
     Ok(())
 }

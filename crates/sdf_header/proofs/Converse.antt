@@ -69,12 +69,14 @@ each-append (s ∷ ss) a b = statement-append s (spell_each ss a) b ∙ ap (spel
 tail_is : (t u : Token) (a b : List Token) → t ∷ a ≡ u ∷ b → a ≡ b
 tail_is t u a b e = cc
 
+-- of two equal lists, ends of equal length are equal
 pub same_end : (a b c d : List Token) → a ++ b ≡ c ++ d → length b ≡ length d → b ≡ d
 same_end [] b [] d e n = e
 same_end [] b (t ∷ c) d e n = absurd (omega (arith, ap length e, length-append c d, n))
 same_end (t ∷ a) b [] d e n = absurd (omega (arith, ap length e, length-append a b, n))
 same_end (t ∷ a) b (u ∷ c) d e n = same_end a b c d (tail_is t u (a ++ b) (c ++ d) e) n
 
+-- a spelling has one part for each token
 pub spelling_length : (ts : List Token) → length (spelling ts) ≡ length ts
 spelling_length [] = refl
 spelling_length (t ∷ ts) = ap (λ n. suc n) (spelling_length ts)

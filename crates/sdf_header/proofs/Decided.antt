@@ -30,6 +30,7 @@ use Rattle.sdf_header.proofs.Choices.{either}
 
 -- ---- what a token decides
 
+-- the token of the list that decides a fault at its place
 pub record Found (all : List Token) (k : FaultKind) (q : ℕ) : Type 0 where
   pub before : List Token
   pub token : Token

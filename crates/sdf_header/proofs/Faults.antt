@@ -48,6 +48,7 @@ by_item : (h : Header) (row : Row) (kind : Kind) (b : Spelling) (part : Spelling
 by_item h row kind b part l i is more e =
     by_line h l.first b _ l.struct (record { type = l.type; earlier = l.earlier; last = i }) (l.is, l.are, is) more (ap (λ x. spell_type l.type (spell_earlier l.earlier x)) e)
 
+-- where tokens lead to a state, statements can follow
 pub continues : (s : State) (b : Spelling) → Sits s b → Continues b
 continues (Done h) b w = record { more = []; statements = w.statements; spells = record { are = w.are; spelled = append-nil b ∙ w.spelled } }
 continues (Start h) b p = record { more = Some End ∷ []; statements = p.statements; spells = record { are = p.are; spelled = p.spelled (Some End ∷ []) } }
@@ -72,6 +73,7 @@ continues (StructSize h row) b s = by_statement h b _ s.before (Struct s.lines N
 
 -- ---- runs in two parts
 
+-- a run over two lists is a run over the first and then over the second
 pub goes-append : (s : State) (a b : List Token) → goes s (a ++ b) ≡ and_then (goes s a) (λ s. goes s b)
 unfolding goes
 goes-append s [] b = refl
@@ -81,6 +83,7 @@ goes-append s (t ∷ a) b = go (step s t) (λ s. goes-append s a b)
     go (Err e) ih = refl
     go (Ok s) ih = ih s
 
+-- the spelling of two lists is both spellings joined
 pub spelling-append : (a b : List Token) → spelling (a ++ b) ≡ spelling a ++ spelling b
 spelling-append [] b = refl
 spelling-append (t ∷ a) b = ap (λ x. t.lexeme ∷ x) (spelling-append a b)
@@ -115,6 +118,7 @@ pub record Halted (s : State) (ts : List Token) (k : FaultKind) (q : ℕ) : Type
 ok_err : {B : Type 0} (s : State) (k : FaultKind) (p : ℕ) → ◌≡◌ {A = Result State Halt} (Ok s) (halt k p) → B
 ok_err s k p e = absurd cc
 
+-- a run that ends in a fault halts at one of its tokens
 pub halted : (s : State) (ts : List Token) (k : FaultKind) (q : ℕ) → goes s ts ≡ halt k q → Halted s ts k q
 unfolding goes
 halted s [] k q e = ok_err s k q e
@@ -130,6 +134,7 @@ ok_is s s1 e = cc
 err_ok : {B : Type 0} (e : Halt) (s : State) → ◌≡◌ {A = Result State Halt} (Err e) (Ok s) → B
 err_ok e s is = absurd cc
 
+-- a run keeps what the tokens so far spell
 pub sits_all : (ts : List Token) (s s1 : State) (b : Spelling) → goes s ts ≡ Ok s1 → Sits s b → Sits s1 (b ++ spelling ts)
 unfolding goes
 sits_all [] s s1 b e sits = subst (λ x. Sits s1 x) (sym (append-nil b)) (subst (λ s. Sits s b) (ok_is s s1 e) sits)
@@ -139,6 +144,7 @@ sits_all (t ∷ ts) s s1 b e sits = go (step s t) refl e (λ s' e' sits'. sits_a
     go (Err x) is e ih = err_ok x s1 e
     go (Ok s') is e ih = subst (λ x. Sits s1 x) (append_assoc b (t.lexeme ∷ []) (spelling ts)) (ih s' e (sits_on s s' b t.lexeme t.place is sits))
 
+-- at the start no token was read
 pub nothing_sits : Sits (Start nothing_given) []
 nothing_sits = record { statements = []; are = tt; fit = tt; say = refl; spelled = λ rest. refl }
 
@@ -156,11 +162,13 @@ ok_only : (r : Result Header Fault) (z : ℕ) (h : Header) → onward z done r �
 ok_only (Ok x) z h e = ap (λ x. Ok x) (done_is x h e)
 ok_only (Err f) z h e = err_ok (record { kind = f.kind; place = z - f.left }) (Done h) e
 
+-- what is read as a header is one
 pub is_header : (text : List ℕ) (h : Header) → header_in text ≡ Ok h → IsHeader text h
 is_header text h e =
     let w : Whole h (spelling (tokens text)) = sits_all (tokens text) (Start nothing_given) (Done h) [] (header_goes (length text) text ∙ ap (onward (length text) done) e) nothing_sits in
     record { statements = w.statements; spells = record { are = w.are; spelled = w.spelled }; fit = w.fit; say = w.say }
 
+-- a header is read as such
 pub header_is : (text : List ℕ) (h : Header) → IsHeader text h → header_in text ≡ Ok h
 header_is text h i = ok_only (header_in text) (length text) h (sym (header_goes (length text) text) ∙ ends_well nothing_given i.statements (tokens text) i.spells.are i.spells.spelled i.fit ∙ ap done i.say)
 

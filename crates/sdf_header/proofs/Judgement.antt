@@ -153,6 +153,7 @@ unfolding verdict judged
 says_layout bytes given s =
     ap (verdict_from bytes) s.ends ∙ ap (λ r. placed (length (take s.text bytes)) r >>= layout_of s.len) (header_is (take s.text bytes) s.header s.is) ∙ s.gives
 
+-- a layout comes exactly where statements give it
 pub layouts : (bytes : List ℕ) → LayoutOfStatements bytes
 unfolding verdict
 layouts bytes layout = (λ e. layout_from bytes layout (extent bytes) refl e, λ s. says_layout bytes (Ok layout) s)
@@ -323,6 +324,7 @@ with_reason bytes (faults.NotWhole name) s = says_layout bytes (Err (faults.NotW
 with_reason bytes (faults.BadParameter name) s = says_layout bytes (Err (faults.BadParameter name)) s
 with_reason bytes (faults.TooMany n) s = says_layout bytes (Err (faults.TooMany n)) s
 
+-- each fault comes exactly where there is its reason
 pub reasons : (bytes : List ℕ) → FaultByReason bytes
 unfolding verdict
 reasons bytes f = (λ e. fault_from bytes f (extent bytes) refl e e, λ s. with_reason bytes f s)

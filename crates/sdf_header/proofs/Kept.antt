@@ -80,6 +80,7 @@ Holds (Length h row kind name p) ts = KeptItem h row kind ts p name (sign 91 ∷
 Holds (ItemEnd h row kind) ts = Unit {0}
 Holds (StructSize h row) ts = Unit {0}
 
+-- a state that keeps no place keeps what is asked
 pub keeps_none : (s : State) (ts : List Token) → KeepsNone s → Holds s ts
 keeps_none (Done h) ts k = tt
 keeps_none (Start h) ts k = tt
@@ -100,12 +101,15 @@ keeps_none (Length h row kind name p) ts k = absurd k
 keeps_none (ItemEnd h row kind) ts k = tt
 keeps_none (StructSize h row) ts k = tt
 
+-- equal states of two runs are equal
 pub ok_is : (s s1 : State) → ◌≡◌ {A = Result State Halt} (Ok s) (Ok s1) → s ≡ s1
 ok_is s s1 e = cc
 
+-- a halt is no state
 pub err_ok : {B : Type 0} (k : FaultKind) (p : ℕ) (s : State) → halt k p ≡ Ok s → B
 err_ok k p s e = absurd cc
 
+-- what holds of a state holds of one that is equal
 pub holds : (s s1 : State) (ts : List Token) → ◌≡◌ {A = Result State Halt} (Ok s) (Ok s1) → Holds s ts → Holds s1 ts
 holds s s1 ts e h = subst (λ s. Holds s ts) (ok_is s s1 e) h
 
@@ -113,6 +117,7 @@ holds s s1 ts e h = subst (λ s. Holds s ts) (ok_is s s1 e) h
 pub last_kept : (ts : List Token) (t : Token) (x : Option Lexeme) → t.lexeme ≡ x → Kept (ts ++ t ∷ []) t.place x []
 last_kept ts t x e = record { before = ts; token = t; after = []; is = refl; stands = refl; lexeme = e; spelled = refl }
 
+-- one token
 abbrev pub alone : Option Lexeme → Spelling
 alone x = x ∷ []
 
@@ -136,6 +141,7 @@ type_holds typed u ts t w s1 x h g e =
       | inr k ↦ holds (typed k.0) s1 (ts ++ t ∷ []) k.2 (h k.0)
     ]
 
+-- behind an item no place is kept
 pub item_end_holds : (h : Header) (row : Row) (kind : Kind) (ts : List Token) (t : Token) (s1 : State) → on_item_end h row kind t ≡ Ok s1 → Holds s1 ts
 item_end_holds h row kind ts t s1 e =
     elim (either (has 59 t.lexeme) (Ok (Fields h row)) (cond (has 44 t.lexeme) (Ok (AtItem h row kind)) (halt faults.Syntax t.place)) (Ok s1) e) [
@@ -147,6 +153,7 @@ item_end_holds h row kind ts t s1 e =
           ]
     ]
 
+-- a step keeps the places
 pub holds_on : (s s1 : State) (ts : List Token) (t : Token) → step s t ≡ Ok s1 → Sits s (spelling ts) → Holds s ts → Holds s1 (ts ++ t ∷ [])
 unfolding last_kept kept_on
 holds_on (Done h) s1 ts t e sits k = err_ok faults.Syntax t.place s1 e
@@ -234,9 +241,11 @@ holds_on (StructSize h row) s1 ts t e sits k =
       | inr f ↦ (let n = wanted_is t.place (option_and_then size_of t.lexeme) (λ n. Ok (Wants 93 (closed h row (Some n)))) s1 f.1 in holds (Wants 93 (closed h row (Some n.0))) s1 _ n.2 tt)
     ]
 
+-- a run that halts reaches no state
 pub err_okh : {B : Type 0} (e : Halt) (s : State) → ◌≡◌ {A = Result State Halt} (Err e) (Ok s) → B
 err_okh e s is = absurd cc
 
+-- a run keeps the places
 pub holds_all : (ts : List Token) (s s1 : State) (b : List Token) → goes s ts ≡ Ok s1 → Sits s (spelling b) → Holds s b → Holds s1 (b ++ ts)
 unfolding goes
 holds_all [] s s1 b e sits h = subst (λ x. Holds s1 x) (sym (append-nil b)) (holds s s1 b e h)
@@ -269,9 +278,11 @@ TakesUnsigned (Length h row kind name p) = ⊥
 TakesUnsigned (ItemEnd h row kind) = ⊥
 TakesUnsigned (StructSize h row) = ⊥
 
+-- what takes `unsigned` is equal to what does
 pub takes : (s s1 : State) → ◌≡◌ {A = Result State Halt} (Ok s) (Ok s1) → TakesUnsigned s → TakesUnsigned s1
 takes s s1 e t = subst TakesUnsigned (ok_is s s1 e) t
 
+-- a name that is given leads to a state that takes `unsigned`
 pub name_takes : (h : Header) (p : ℕ) (named : List ℕ → State) (w : List ℕ) (s1 : State) → TakesUnsigned (named w) → on_name h p named w ≡ Ok s1 → TakesUnsigned s1
 name_takes h p named w s1 t e =
     elim (either (is_some (h.given w)) (halt faults.NameTwice p) (Ok (named w)) (Ok s1) e) [
@@ -279,6 +290,7 @@ name_takes h p named w s1 t e =
       | inr b ↦ takes (named w) s1 b.1 t
     ]
 
+-- behind the word `unsigned` stands a state that takes it
 pub on_unsigned : (s s1 : State) (p : ℕ) → step s (record { lexeme = word (codes "unsigned"); place = p }) ≡ Ok s1 → TakesUnsigned s1
 on_unsigned (Done h) s1 p e = err_ok faults.Syntax p s1 e
 on_unsigned (Start h) s1 p e = takes (Unsigned h p) s1 e tt
@@ -313,11 +325,13 @@ pub last_or : Option Lexeme → Spelling → Option Lexeme
 last_or d [] = d
 last_or d (x ∷ xs) = last_or x xs
 
+-- the last of a list with one more is that one
 pub last_is : (xs : Spelling) (d x : Option Lexeme) → last_or d (xs ++ x ∷ []) ≡ x
 unfolding last_or
 last_is [] d x = refl
 last_is (y ∷ xs) d x = last_is xs y x
 
+-- equal lists end alike
 pub same_last : (a b : Spelling) (x y : Option Lexeme) → a ++ x ∷ [] ≡ b ++ y ∷ [] → x ≡ y
 same_last a b x y e = sym (last_is a None x) ∙ ap (last_or None) e ∙ last_is b None y
 
@@ -325,10 +339,12 @@ same_last a b x y e = sym (last_is a None x) ∙ ap (last_or None) e ∙ last_is
 abbrev pub AfterUnsigned : State → Spelling → Type 0
 AfterUnsigned s b = (front : Spelling) → b ≡ front ++ word (codes "unsigned") ∷ [] → TakesUnsigned s
 
+-- a step leads behind `unsigned` to a state that takes it
 pub after_on : (s s1 : State) (b : Spelling) (t : Token) → step s t ≡ Ok s1 → AfterUnsigned s1 (b ++ t.lexeme ∷ [])
 after_on s s1 b t e front is =
     on_unsigned s s1 t.place (subst (λ x. step s (record { lexeme = x; place = t.place }) ≡ Ok s1) (same_last b front t.lexeme (word (codes "unsigned")) is) e)
 
+-- a run does so too
 pub after_all : (ts : List Token) (s s1 : State) (b : Spelling) → goes s ts ≡ Ok s1 → AfterUnsigned s b → AfterUnsigned s1 (b ++ spelling ts)
 unfolding goes
 after_all [] s s1 b e after = subst (λ x. AfterUnsigned s1 x) (sym (append-nil b)) (subst (λ s. AfterUnsigned s b) (ok_is s s1 e) after)
@@ -338,6 +354,7 @@ after_all (t ∷ ts) s s1 b e after = go (step s t) refl e (λ s' e' after'. aft
     go (Err x) is e ih = err_okh x s1 e
     go (Ok s') is e ih = subst (λ x. AfterUnsigned s1 x) (append_assoc b (t.lexeme ∷ []) (spelling ts)) (ih s' e (after_on s s' b t is))
 
+-- nothing stands behind `unsigned` at the start
 pub nothing_after : AfterUnsigned (Start nothing_given) []
 nothing_after [] e = absurd cc
 nothing_after (x ∷ front) e = absurd cc

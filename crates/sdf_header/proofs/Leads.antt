@@ -22,6 +22,7 @@ use Rattle.sdf_header.specs.Grammar.{Spelling, spelling, word, sign, count, Type
 use Rattle.sdf_header.proofs.Machine.{Halt, halt, State, Done, Start, Wants, ParamName, ParamValue, Unsigned, Typed, Named, NumberFor, TextSize, TextValue, Fields, FieldUnsigned, Item as AtItem, ItemName, Length, ItemEnd, StructSize, wanted, has, or_halt, given, closed, on_type, on_item_end, step, and_then, goes}
 use Rattle.sdf_header.proofs.Choices.{true_false, none_some}
 
+-- a run that halts since what the statements say does not fit
 abbrev pub HaltsBySense : Result State Halt → Type 0
 HaltsBySense (Ok s) = ⊥
 HaltsBySense (Err e) = IsOfSense e.kind
@@ -47,6 +48,7 @@ joined s s1 s2 ts l1 l2 g next = record {
 abbrev pub Leads : State → List Token → State → Spelling → Type 0 → Type 0
 Leads s ts later rest fits = GoesOn s ts later rest ⊎ (HaltsBySense (goes s ts) × (fits → ⊥))
 
+-- one way to go on and then the next, with what makes each of them fit
 pub lead_on : (s s1 s2 : State) (ts : List Token) (l1 l2 : Spelling) (p q r : Type 0) → (r → p) → (r → q) → Leads s ts s1 l1 p → ((ts : List Token) → spelling ts ≡ l1 → Leads s1 ts s2 l2 q) → Leads s ts s2 l2 r
 lead_on s s1 s2 ts l1 l2 p q r to_p to_q (inr halts) h = inr (halts.0, λ x. halts.1 (to_p x))
 lead_on s s1 s2 ts l1 l2 p q r to_p to_q (inl on) h =
@@ -92,10 +94,12 @@ one_or : (b : Bool) (s s1 : State) (ts : List Token) (x : Option Lexeme) (l : Sp
 one_or true s s1 ts x l k sense e h g = inr (halts_at s ts x l k sense e (h refl), λ is. true_false true refl is)
 one_or false s s1 ts x l k sense e h g = inl (one s s1 ts x l e (g refl))
 
+-- one way to go on and then the next
 pub on : (s s1 s2 : State) (ts : List Token) (l1 l2 : Spelling) → GoesOn s ts s1 l1 → ((ts : List Token) → spelling ts ≡ l1 → GoesOn s1 ts s2 l2) → GoesOn s ts s2 l2
 on s s1 s2 ts l1 l2 g h =
     joined s s1 s2 ts l1 l2 g (h g.tokens g.are)
 
+-- the same where only the second may halt
 pub on_lead : (s s1 s2 : State) (ts : List Token) (l1 l2 : Spelling) (p : Type 0) → GoesOn s ts s1 l1 → ((ts : List Token) → spelling ts ≡ l1 → Leads s1 ts s2 l2 p) → Leads s ts s2 l2 p
 on_lead s s1 s2 ts l1 l2 p g h =
     elim (h g.tokens g.are) [
@@ -227,6 +231,7 @@ lead_item h row kind i sep next ts rest isnt ends is e =
           ]
     ]
 
+-- the items with commas behind them lead on, where they fit
 pub lead_earlier : (h : Header) (row : Row) (kind : Kind) (items : List Item) (ts : List Token) (rest : Spelling) → AreItems items → spelling ts ≡ spell_earlier items rest → Leads (AtItem h row kind) ts (AtItem h (and_items kind row items) kind) rest (ItemsFit kind row items)
 lead_earlier h row kind [] ts rest are e = inl (record { used = []; tokens = ts; split = refl; are = e; same = refl })
 lead_earlier h row kind (i ∷ items) ts rest are e =
@@ -245,6 +250,7 @@ lead_line h row l ts rest are e =
     (lead_earlier h row kind l.earlier ts _ are.1 e)
     (λ ts e. lead_item h wider kind l.last 59 (λ row. Fields h row) ts rest refl (λ row place. refl) are.2 e))
 
+-- field lines lead on, where they fit
 pub lead_lines : (h : Header) (row : Row) (lines : List FieldLine) (ts : List Token) (rest : Spelling) → AreLines lines → spelling ts ≡ spell_lines lines rest → Leads (Fields h row) ts (Fields h (and_lines row lines)) rest (LinesFit row lines)
 lead_lines h row [] ts rest are e = inl (record { used = []; tokens = ts; split = refl; are = e; same = refl })
 lead_lines h row (l ∷ lines) ts rest are e =
@@ -269,6 +275,7 @@ lead_struct h lines size ts rest are sized e =
 
 -- ---- statements
 
+-- a statement leads on, where it fits
 pub lead_statement : (h : Header) (s : Statement) (ts : List Token) (rest : Spelling) → IsStatement s → spelling ts ≡ spell s rest → Leads (Start h) ts (Start (and_statement h s)) rest (Fits h s)
 lead_statement h (Parameter name token value) ts rest is e = lead_parameter h name token value ts rest is e
 lead_statement h (Constant t name token value) ts rest is e = lead_constant h t name token value ts rest is.0 is.1 e
@@ -305,6 +312,7 @@ by_sense : (r : Result State Halt) → HaltsBySense r → EndsOrBySense r
 by_sense (Ok s) h = tt
 by_sense (Err e) h = h
 
+-- the tokens of statements lead to the end, or halt by their sense
 pub no_bad_spelling : (h : Header) (ss : List Statement) (ts : List Token) → AreStatements ss → spelling ts ≡ spell_each ss (Some End ∷ []) → EndsOrBySense (goes (Start h) ts)
 unfolding goes
 no_bad_spelling h ss ts are e =
@@ -321,6 +329,7 @@ lead_each h (s ∷ ss) ts rest are e =
     (lead_statement h s ts (spell_each ss rest) are.0 e)
     (λ ts e. lead_each (and_statement h s) ss ts rest are.1 e)
 
+-- what fits goes on
 pub since_fits : (s later : State) (ts : List Token) (rest : Spelling) (p : Type 0) → Leads s ts later rest p → p → GoesOn s ts later rest
 since_fits s later ts rest p (inl g) fits = g
 since_fits s later ts rest p (inr halts) fits = absurd (halts.1 fits)

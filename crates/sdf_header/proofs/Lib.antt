@@ -1,6 +1,8 @@
 pub mod Choices
 pub mod Numbers
 pub mod Blanks
+pub mod Wider
+pub mod Taken
 pub mod Items
 pub mod Lines
 pub mod Statements

@@ -20,6 +20,7 @@ pub record Halt : Type 0 where
   pub kind : FaultKind
   pub place : ℕ
 
+-- what may follow: each state keeps what the tokens so far said
 pub data State : Type 0 where
   Done : Header → State
   Start : Header → State
@@ -40,6 +41,7 @@ pub data State : Type 0 where
   ItemEnd : Header → Row → Kind → State
   StructSize : Header → Row → State
 
+-- a run halts by this fault at this place
 abbrev pub halt : {A : Type 0} → FaultKind → ℕ → Result A Halt
 halt kind place = Err (record { kind = kind; place = place })
 
@@ -58,6 +60,7 @@ abbrev pub ends : Option Lexeme → Bool
 ends None = false
 ends (Some x) = is_end x
 
+-- the word that a token is, if it is one
 abbrev pub word_in : Option Lexeme → Option (List ℕ)
 word_in x = option_and_then word_of x
 
@@ -75,36 +78,44 @@ abbrev pub or_halt : {A : Type 0} → FaultKind → ℕ → Option A → (A → 
 or_halt kind place None f = halt kind place
 or_halt kind place (Some x) f = f x
 
+-- behind the value of a parameter or a declaration
 abbrev pub given : Header → List ℕ → Value → State
 given h name value = Wants 59 (Start (with_param h (record { name = name; value = value })))
 
+-- behind the closing bracket of a struct
 abbrev pub closed : Header → Row → Option ℕ → State
 closed h row size = Wants 59 (Start (with_struct h (record { row = row; size = size })))
 
+-- at a word that begins a type
 abbrev pub on_type : ℕ → (Kind → State) → State → List ℕ → Result State Halt
 on_type place typed unsigned w =
     if bytes_eq w (codes "unsigned") then Ok unsigned
     else or_halt faults.UnknownType place (kind_named w) (λ kind. Ok (typed kind))
 
+-- at the first word of a statement
 abbrev pub on_statement : Header → ℕ → List ℕ → Result State Halt
 on_statement h place w =
     if bytes_eq w (codes "parameter") then Ok (ParamName h)
     else if bytes_eq w (codes "struct") then (if is_some h.table then halt faults.SecondStruct place else Ok (Wants 123 (Fields h no_fields)))
     else on_type place (Typed h) (Unsigned h place) w
 
+-- at the name of a statement
 abbrev pub on_name : Header → ℕ → (List ℕ → State) → List ℕ → Result State Halt
 on_name h place named w = if is_some (h.given w) then halt faults.NameTwice place else Ok (named w)
 
+-- behind an item: the semicolon or a comma
 abbrev pub on_item_end : Header → Row → Kind → Token → Result State Halt
 on_item_end h row kind t =
     if has 59 t.lexeme then Ok (Fields h row) else if has 44 t.lexeme then Ok (Item h row kind) else halt faults.Syntax t.place
 
+-- at the name of a column
 abbrev pub on_item : Header → Row → Kind → ℕ → List ℕ → Result State Halt
 on_item h row kind place w =
     if has_field w row.fields then halt faults.NameTwice place
     else if length row.fields == max_columns then halt faults.TooWide place
     else Ok (ItemName h row kind w place)
 
+-- a text, if the token is one
 abbrev pub text_in : Lexeme → Option Unit
 text_in x = if is_text x then Some tt else None
 

@@ -56,6 +56,7 @@ option_then n l f o k w none less h = go (o l.lexeme) refl
     go None e = tt
     go (Some a) e = h a (less (λ is. is_none a (sym e ∙ ap o is ∙ none)))
 
+-- behind a sign fewer bytes are left
 pub sign_less : (n s : ℕ) (bytes : List ℕ) → length bytes ≤ n → Under n (λ rest. rest) (sign_at s bytes)
 unfolding sign_at
 sign_less n s bytes le = token_then n bytes _ (λ rest. rest) le (λ l less. chosen n (is_the s l.lexeme) (Ok l.rest) (Err (syntax_at l.start)) (λ rest. rest) (λ e. less (sign_not_end s l.lexeme e)) (λ e. tt))
@@ -63,6 +64,7 @@ sign_less n s bytes le = token_then n bytes _ (λ rest. rest) le (λ l less. cho
 sign_then : {A : Type 0} (n s : ℕ) (bytes : List ℕ) (k : List ℕ → Result A Fault) (w : A → List ℕ) → length bytes ≤ n → ((rest : List ℕ) → length rest < n → Under n w (k rest)) → Under n w (sign_at s bytes >>= k)
 sign_then n s bytes k w le h = chain n (sign_at s bytes) (λ rest. rest) k w (sign_less n s bytes le) h
 
+-- behind a word fewer bytes are left
 pub word_less : (n : ℕ) (bytes : List ℕ) → length bytes ≤ n → Under n (λ (x : Name). x.rest) (word_at bytes)
 unfolding word_at
 word_less n bytes le = token_then n bytes named (λ (x : Name). x.rest) le (λ l less. option_then n l (syntax_at l.start) word_of (λ w. Ok (record { name = w; start = l.start; rest = l.rest })) (λ (x : Name). x.rest) refl less (λ w lt. lt))
@@ -71,6 +73,7 @@ name_less : (n : ℕ) (given : Names) (bytes : List ℕ) → length bytes ≤ n 
 unfolding new_name
 name_less n given bytes le = chain n (word_at bytes) (λ (x : Name). x.rest) _ (λ (x : Name). x.rest) (word_less n bytes le) (λ x lt. chosen n (is_some (given x.name)) (Err (name_twice_at x.start)) (Ok x) (λ (x : Name). x.rest) (λ e. tt) (λ e. lt))
 
+-- behind a type fewer bytes are left
 pub type_less : (n : ℕ) (x : Name) → length x.rest < n → Under n (λ (y : Kind × List ℕ). y.1) (type_at x)
 unfolding type_at
 type_less n x lt = chosen n (bytes_eq x.name (codes "unsigned")) (unsigned_end x.start (next x.rest)) (or_fault (unknown_type_at x.start) (kind_named x.name) >>= λ kind. Ok (kind, x.rest)) (λ (y : Kind × List ℕ). y.1)
@@ -152,6 +155,7 @@ bracket_less n row kind x (Ok l) lt less =
       | inr e ↦ rw e (whatever n (with_field row kind x 1 false) _ behind_row (λ wide. lt))
     ]
 
+-- behind an item fewer bytes are left
 pub item_less : (n : ℕ) (row : Row) (kind : Kind) (bytes : List ℕ) → length bytes ≤ n → Under n behind_row (item_at row kind bytes)
 unfolding item_at
 item_less n row kind bytes le =
@@ -160,6 +164,7 @@ item_less n row kind bytes le =
     chosen n (length row.fields == max_columns) _ _ behind_row (λ e. tt) (λ e.
     bracket_less n row kind x (next x.rest) lt (next_less x.rest))))
 
+-- behind the items of a line fewer bytes are left
 pub items_less : (fuel n : ℕ) (kind : Kind) (row : Row) (bytes : List ℕ) → length bytes < n → Under n behind_row (items_at fuel kind row bytes)
 unfolding items_at
 items_less zero n kind row bytes lt = lt
@@ -169,12 +174,14 @@ items_less (suc fuel) n kind row bytes lt =
     chosen n (is_the 59 l.lexeme) _ _ behind_row (λ e. less (sign_not_end 59 l.lexeme e)) (λ e.
     chosen n (is_the 44 l.lexeme) _ _ behind_row (λ e. (let lt = less (sign_not_end 44 l.lexeme e) in items_less fuel n kind one.0 l.rest lt)) (λ e. tt))))
 
+-- behind a field line fewer bytes are left
 pub line_less : (n : ℕ) (row : Row) (l : Lex) → ((l.lexeme ≡ End → ⊥) → length l.rest < n) → Under n behind_row (line_at row l)
 unfolding line_at
 line_less n row l less =
     chain n (named l) (λ (x : Name). x.rest) _ behind_row (option_then n l (syntax_at l.start) word_of (λ w. Ok (record { name = w; start = l.start; rest = l.rest })) (λ (x : Name). x.rest) refl less (λ w lt. lt)) (λ x lt.
     chain n (type_at x) (λ (y : Kind × List ℕ). y.1) _ behind_row (type_less n x lt) (λ y lt. items_less (suc (length y.1)) n y.0 row y.1 lt))
 
+-- behind the field lines fewer bytes are left
 pub lines_less : (fuel n : ℕ) (row : Row) (bytes : List ℕ) → length bytes < n → Under n behind_row (lines_at fuel row bytes)
 unfolding lines_at
 lines_less zero n row bytes lt = lt
@@ -192,6 +199,7 @@ struct_less n bytes le =
     chain n (size_at bracket) (λ (y : Option ℕ × List ℕ). y.1) _ (λ (y : Struct × List ℕ). y.1) (size_less n bracket (omega arith)) (λ size lt.
     sign_then n 59 size.1 _ (λ (y : Struct × List ℕ). y.1) (omega arith) (λ rest lt. lt)))))
 
+-- behind a statement fewer bytes are left
 pub statement_less : (n : ℕ) (h : Header) (l : Lex) → ((l.lexeme ≡ End → ⊥) → length l.rest < n) → Under n (λ (y : Header × List ℕ). y.1) (statement_at h l)
 unfolding statement_at
 statement_less n h l less =

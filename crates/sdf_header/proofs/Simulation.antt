@@ -407,6 +407,7 @@ statement : (z : ℕ) (h : Header) (l : Lex) → is_end l.lexeme ≡ false → a
 unfolding statement_at
 statement z h l isnt = chain z (named l) _ _ _ _ (word_lex z (Start h) (on_statement h) l (rw isnt refl)) (λ n. named_statement z h n)
 
+-- the run is over, with this header
 abbrev pub done : Header → Result State Halt
 done h = Ok (Done h)
 

@@ -22,56 +22,69 @@ use Rattle.sdf_header.proofs.Choices.{either, none_some, some_is, and_true}
 
 -- ---- one more at the end
 
+-- statements with one more, spelled
 pub spell_each-one : (ss : List Statement) (s : Statement) (rest : Spelling) → spell_each (ss ++ s ∷ []) rest ≡ spell_each ss (spell s rest)
 spell_each-one [] s rest = refl
 spell_each-one (s' ∷ ss) s rest = ap (spell s') (spell_each-one ss s rest)
 
+-- field lines with one more, spelled
 pub spell_lines-one : (ls : List FieldLine) (l : FieldLine) (rest : Spelling) → spell_lines (ls ++ l ∷ []) rest ≡ spell_lines ls (spell_line l rest)
 spell_lines-one [] l rest = refl
 spell_lines-one (l' ∷ ls) l rest = ap (spell_line l') (spell_lines-one ls l rest)
 
+-- items with commas, and one more, spelled
 pub spell_earlier-one : (items : List Item) (i : Item) (rest : Spelling) → spell_earlier (items ++ i ∷ []) rest ≡ spell_earlier items (spell_item i (sign 44 ∷ rest))
 spell_earlier-one [] i rest = refl
 spell_earlier-one (i' ∷ items) i rest = ap (λ x. spell_item i' (sign 44 ∷ x)) (spell_earlier-one items i rest)
 
+-- statements with one more are statements
 pub are_statements-one : (ss : List Statement) (s : Statement) → AreStatements ss → IsStatement s → AreStatements (ss ++ s ∷ [])
 are_statements-one [] s are is = (is, tt)
 are_statements-one (s' ∷ ss) s are is = (are.0, are_statements-one ss s are.1 is)
 
+-- field lines with one more are field lines
 pub are_lines-one : (ls : List FieldLine) (l : FieldLine) → AreLines ls → IsType l.type × AreItems l.earlier × IsLength l.last.length → AreLines (ls ++ l ∷ [])
 are_lines-one [] l are is = (is, tt)
 are_lines-one (l' ∷ ls) l are is = (are.0, are_lines-one ls l are.1 is)
 
+-- items with one more are items
 pub are_items-one : (items : List Item) (i : Item) → AreItems items → IsLength i.length → AreItems (items ++ i ∷ [])
 are_items-one [] i are is = (is, tt)
 are_items-one (i' ∷ items) i are is = (are.0, are_items-one items i are.1 is)
 
+-- what statements with one more say
 pub and_statements-one : (h : Header) (ss : List Statement) (s : Statement) → and_statements h (ss ++ s ∷ []) ≡ and_statement (and_statements h ss) s
 and_statements-one h [] s = refl
 and_statements-one h (s' ∷ ss) s = and_statements-one (and_statement h s') ss s
 
+-- the row of field lines with one more
 pub and_lines-one : (row : Row) (ls : List FieldLine) (l : FieldLine) → and_lines row (ls ++ l ∷ []) ≡ and_line (and_lines row ls) l
 and_lines-one row [] l = refl
 and_lines-one row (l' ∷ ls) l = and_lines-one (and_line row l') ls l
 
+-- the row of items with one more
 pub and_items-one : (kind : Kind) (row : Row) (items : List Item) (i : Item) → and_items kind row (items ++ i ∷ []) ≡ and_item kind (and_items kind row items) i
 and_items-one kind row [] i = refl
 and_items-one kind row (i' ∷ items) i = and_items-one kind (and_item kind row i') items i
 
+-- statements with one more that fits fit
 pub all_fit-one : (h : Header) (ss : List Statement) (s : Statement) → AllFit h ss → Fits (and_statements h ss) s → AllFit h (ss ++ s ∷ [])
 all_fit-one h [] s fit fits = (fits, tt)
 all_fit-one h (s' ∷ ss) s fit fits = (fit.0, all_fit-one (and_statement h s') ss s fit.1 fits)
 
+-- field lines with one more that fits fit
 pub lines_fit-one : (row : Row) (ls : List FieldLine) (l : FieldLine) → LinesFit row ls → ItemsFit l.type.kind (and_lines row ls) l.earlier × ItemFits l.type.kind (and_items l.type.kind (and_lines row ls) l.earlier) l.last → LinesFit row (ls ++ l ∷ [])
 lines_fit-one row [] l fit fits = (fits, tt)
 lines_fit-one row (l' ∷ ls) l fit fits = (fit.0, lines_fit-one (and_line row l') ls l fit.1 fits)
 
+-- items with one more that fits fit
 pub items_fit-one : (kind : Kind) (row : Row) (items : List Item) (i : Item) → ItemsFit kind row items → ItemFits kind (and_items kind row items) i → ItemsFit kind row (items ++ i ∷ [])
 items_fit-one kind row [] i fit fits = (fits, tt)
 items_fit-one kind row (i' ∷ items) i fit fits = (fit.0, items_fit-one kind (and_item kind row i') items i fit.1 fits)
 
 -- ---- what the tokens so far spell: whole statements, and a part of one in front of what follows
 
+-- whole statements that say h, in front of a part of the next
 pub record Before (h : Header) (b : Spelling) (part : Spelling → Spelling) : Type 0 where
   pub statements : List Statement
   pub are : AreStatements statements
@@ -79,6 +92,7 @@ pub record Before (h : Header) (b : Spelling) (part : Spelling → Spelling) : T
   pub say : said statements ≡ h
   pub spelled : (rest : Spelling) → b ++ rest ≡ spell_each statements (part rest)
 
+-- whole statements that say h, and the end
 pub record Whole (h : Header) (b : Spelling) : Type 0 where
   pub statements : List Statement
   pub are : AreStatements statements
@@ -86,12 +100,14 @@ pub record Whole (h : Header) (b : Spelling) : Type 0 where
   pub say : said statements ≡ h
   pub spelled : b ≡ spell_each statements (Some End ∷ [])
 
+-- behind the type of a statement
 pub record InType (h : Header) (kind : Kind) (b : Spelling) (part : Spelling → Spelling) : Type 0 where
   pub type : TypeName
   pub is : IsType type
   pub kind_is : type.kind ≡ kind
   pub before : Before h b (λ rest. spell_type type (part rest))
 
+-- within a struct, behind field lines that give the row
 pub record InStruct (h : Header) (row : Row) (b : Spelling) (part : Spelling → Spelling) : Type 0 where
   pub lines : List FieldLine
   pub are : AreLines lines
@@ -100,6 +116,7 @@ pub record InStruct (h : Header) (row : Row) (b : Spelling) (part : Spelling →
   pub none : is_some h.table ≡ false
   pub before : Before h b (λ rest. word (codes "struct") ∷ sign 123 ∷ spell_lines lines (part rest))
 
+-- within a field line, behind items that give the row
 pub record InLine (h : Header) (row : Row) (kind : Kind) (b : Spelling) (part : Spelling → Spelling) : Type 0 where
   pub first : Row
   pub type : TypeName
@@ -111,11 +128,13 @@ pub record InLine (h : Header) (row : Row) (kind : Kind) (b : Spelling) (part : 
   pub say : and_items type.kind first earlier ≡ row
   pub struct : InStruct h first b (λ rest. spell_type type (spell_earlier earlier (part rest)))
 
+-- at an item with a new name, for which there is room
 pub record NewItem (h : Header) (row : Row) (kind : Kind) (name : List ℕ) (b : Spelling) (part : Spelling → Spelling) : Type 0 where
   pub new : has_field name row.fields ≡ false
   pub room : (length row.fields == max_columns) ≡ false
   pub line : InLine h row kind b part
 
+-- behind an item that gives the row
 pub record ItemRead (h : Header) (row : Row) (kind : Kind) (b : Spelling) : Type 0 where
   pub narrower : Row
   pub item : Item
@@ -124,17 +143,20 @@ pub record ItemRead (h : Header) (row : Row) (kind : Kind) (b : Spelling) : Type
   pub say : and_item kind narrower item ≡ row
   pub line : InLine h narrower kind b (λ rest. spell_item item rest)
 
+-- at the size of a text
 pub record InText (h : Header) (name : List ℕ) (b : Spelling) (part : Spelling → Spelling) : Type 0 where
   pub new : is_some (h.given name) ≡ false
   pub kind : Kind
   pub char : is_char kind ≡ true
   pub type : InType h kind b (λ rest. word name ∷ sign 91 ∷ part rest)
 
+-- behind the size of a text
 pub record InTextBehind (h : Header) (name : List ℕ) (b : Spelling) : Type 0 where
   pub size : Option ℕ
   pub is : IsSize size
   pub text : InText h name b (λ rest. spell_size size (sign 93 ∷ sign 61 ∷ rest))
 
+-- what the tokens so far spell, at each state
 abbrev pub Sits : State → Spelling → Type 0
 Sits (Done h) b = Whole h b
 Sits (Start h) b = Before h b (λ rest. rest)
@@ -184,10 +206,12 @@ whole h b f s p is fits e = record {
 err_ok : {B : Type 0} (k : FaultKind) (p : ℕ) (s : State) → halt k p ≡ Ok s → B
 err_ok k p s e = absurd cc
 
+-- what was wanted was there
 pub wanted_is : {A : Type 0} (p : ℕ) (o : Option A) (f : A → Result State Halt) (s : State) → wanted p o f ≡ Ok s → (a : A) × (o ≡ Some a) × (f a ≡ Ok s)
 wanted_is p None f s e = err_ok faults.Syntax p s e
 wanted_is p (Some a) f s e = (a, refl, e)
 
+-- where no halt came, what was asked for was there
 pub or_halt_is : {A : Type 0} (k : FaultKind) (p : ℕ) (o : Option A) (f : A → Result State Halt) (s : State) → or_halt k p o f ≡ Ok s → (a : A) × (o ≡ Some a) × (f a ≡ Ok s)
 or_halt_is k p None f s e = err_ok k p s e
 or_halt_is k p (Some a) f s e = (a, refl, e)
@@ -198,6 +222,7 @@ lands s s1 b e sits = subst (λ s. Sits s b) (ok_is s s1 e) sits
     ok_is : (s s1 : State) → ◌≡◌ {A = Result State Halt} (Ok s) (Ok s1) → s ≡ s1
     ok_is s s1 e = cc
 
+-- a token that is a sign is that sign
 pub sign_is : (s : ℕ) (x : Option Lexeme) → has s x ≡ true → x ≡ sign s
 sign_is s None e = absurd cc
 sign_is s (Some (Word w)) e = absurd cc
@@ -206,6 +231,7 @@ sign_is s (Some Text) e = absurd cc
 sign_is s (Some (Sign t)) e = ap (λ n. sign n) (eqb-true t s e)
 sign_is s (Some End) e = absurd cc
 
+-- a token that is a word is that word
 pub word_is : (x : Option Lexeme) (w : List ℕ) → word_in x ≡ Some w → x ≡ word w
 word_is None w e = none_some w e
 word_is (Some (Word v)) w e = ap (λ n. word n) (some_is v w e)
@@ -248,6 +274,7 @@ size_is Text n e = none_some n e
 size_is (Sign t) n e = none_some n e
 size_is End n e = none_some n e
 
+-- a good length is a count within its limits
 pub length_is : (l : Lexeme) (n : ℕ) → length_of l ≡ Some n → (Some l ≡ count n) × ((1 ≤ n) × (n ≤ max_array_length))
 length_is (Word w) n e = none_some n e
 length_is (Number None) n e = none_some n e
@@ -262,6 +289,7 @@ length_is Text n e = none_some n e
 length_is (Sign t) n e = none_some n e
 length_is End n e = none_some n e
 
+-- a word behind `unsigned` that gives a type is one of its words
 pub unsigned_is : (x : Option Lexeme) (kind : Kind) → option_and_then unsigned_type x ≡ Some kind → (w : List ℕ) × (x ≡ word w) × (type_in types true w ≡ Some kind)
 unsigned_is None kind e = none_some kind e
 unsigned_is (Some (Word w)) kind e = (w, refl, e)
@@ -369,6 +397,7 @@ item_end_sits h row kind b x p s1 e r =
           ]
     ]
 
+-- a row that took one more column was not too wide for it
 pub wide_is : (row : Row) (kind : Kind) (name : List ℕ) (n : ℕ) (is_array : Bool) (wider : Row) → widened row kind name n is_array ≡ Some wider
     → (nat_lt max_row_bytes (row.width + bytes_of kind * n) ≡ false) × (◌≡◌ {A = Row} (record { fields = row.fields ++ record { name = name; kind = kind; offset = row.width; is_array = is_array } ∷ []; width = row.width + bytes_of kind * n }) wider)
 wide_is row kind name n is_array wider e =

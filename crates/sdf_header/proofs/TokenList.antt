@@ -49,6 +49,7 @@ beyond (suc n) (b ∷ bytes) =
     let e : suc (length bytes) - length (drop n bytes) ≡ suc (length bytes - length (drop n bytes)) = omega arith in
     rw e (beyond n bytes))
 
+-- the tokens behind a place are those of the bytes from there on
 pub behind : (size : ℕ) (rest bytes : List ℕ) → Tail rest bytes → tokens_behind size bytes (length bytes - length rest) ≡ tokens_behind size rest 0
 behind size rest bytes t =
     passed size bytes (length bytes - length rest)
@@ -294,6 +295,7 @@ token_facts b bytes =
 
 -- ---- the next token
 
+-- the place where no token stands
 abbrev pub none_at : ℕ → ℕ → Token
 none_at size left = record { lexeme = None; place = size - left }
 
@@ -305,6 +307,7 @@ listed_behind size rest (Number n) = tokens_behind size rest 0
 listed_behind size rest Text = tokens_behind size rest 0
 listed_behind size rest (Sign s) = tokens_behind size rest 0
 
+-- the first token and those behind it
 abbrev pub listed : ℕ → Result Lex Fault → List Token
 listed size (Err f) = none_at size f.left ∷ []
 listed size (Ok l) = token size (Some l.lexeme) l.start ∷ listed_behind size l.rest l.lexeme
@@ -372,6 +375,7 @@ syntax_is (suc n) (b ∷ bytes) lt = go (blank_at (b ∷ bytes)) (blank_facts b 
     go (Ok None) e ih = token_syntax b bytes (token_at (b ∷ bytes)) (token_facts b bytes)
     go (Ok (Some rest)) t ih = ih rest (omega (arith, tail_le rest bytes t))
 
+-- the next token fails by a fault of the syntax alone
 pub next_syntax : (bytes : List ℕ) → IsSyntax (next bytes)
 unfolding next
 next_syntax bytes = syntax_is (suc (length bytes)) bytes (omega arith)
@@ -396,6 +400,7 @@ less_is (suc n) m (b ∷ bytes) lt le = go (blank_at (b ∷ bytes)) (blank_facts
     go (Ok None) e ih = token_less b m bytes (token_at (b ∷ bytes)) (omega arith) (token_facts b bytes)
     go (Ok (Some rest)) t ih = ih rest (omega (arith, tail_le rest bytes t)) (omega (arith, tail_le rest bytes t))
 
+-- the next token leaves fewer bytes, or it is the end
 pub next_less : (bytes : List ℕ) → LeavesLess (length bytes) (next bytes)
 unfolding next
 next_less bytes = less_is (suc (length bytes)) (length bytes) bytes (omega arith) (omega arith)

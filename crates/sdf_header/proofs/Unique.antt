@@ -86,6 +86,7 @@ unsigned_way all before t (u ∷ after) place y more is at x wanted behind stops
       way = OfUnsigned before t refl at (spelling before, front ∙ ap (λ z. spelling before ++ z ∷ []) x, wanted);
     })
 
+-- a token that decides a fault of the grammar stops
 pub stopped : (all before : List Token) (t : Token) (after : List Token) (kind : FaultKind) (place : ℕ) → all ≡ before ++ t ∷ after → t.place ≡ place → (IsOfSense kind → ⊥) → Decides kind (spelling before) t.lexeme (spelling after) → Stopped all kind place
 stopped all before t after faults.Syntax place is at bad d = record { stop = record { before = before; token = t; after = after; is = is; stops = d.0 }; way = OfSyntax at d.1 d.2 }
 stopped all before t after faults.UnknownType place is at bad d =
@@ -121,11 +122,13 @@ ways all s r k l p q b t (OfUnsigned front u is at behind) (OfSyntax at' no_word
 ways all s r k l p q b t (OfUnsigned front u is at behind) (OfWord at' is' alone) = absurd (alone (subst (λ z. BehindUnsigned (spelling z)) b behind))
 ways all s r k l p q b t (OfUnsigned front u is at behind) (OfUnsigned front' u' is' at' behind') = (refl, sym at ∙ ap (λ (x : Token). x.place) (same_last front front' u u' (sym is ∙ b ∙ is')) ∙ at')
 
+-- two tokens that stop are one, with one fault
 pub one_fault : (all : List Token) (k l : FaultKind) (p q : ℕ) → Stopped all k p → Stopped all l q → (k ≡ l) × (p ≡ q)
 one_fault all k l p q s r =
     let same = one_stop s.stop.before r.stop.before s.stop.token r.stop.token s.stop.after r.stop.after (sym s.stop.is ∙ r.stop.is) s.stop.stops r.stop.stops in
     ways all s.stop r.stop k l p q same.0 same.1 s.way r.way
 
+-- a fault of the grammar stands at a token that stops
 pub fault_stops : (text : List ℕ) (kind : FaultKind) (place : ℕ) → (IsOfSense kind → ⊥) → FaultAt text kind place → Stopped (tokens text) kind place
 fault_stops text kind place bad f = stopped (tokens text) f.before f.token f.after kind place f.is f.stands bad f.decides
 

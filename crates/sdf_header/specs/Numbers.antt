@@ -96,11 +96,14 @@ with_sign negative None = Some None
 with_sign true (Some n) = if nat_lt (2 ^ 63) n then None else Some (Some (neg_ℤ (pos n)))
 with_sign false (Some n) = Some (Some (pos n))
 
+-- a number that has no sign
+abbrev pub unsigned : List ℕ → Option (Option ℕ × List ℕ)
+unsigned bytes = if is_hexadecimal bytes then hexadecimal (drop 2 bytes) else decimal bytes
+
 -- a number, with its value where it is whole, and what is behind it
 unfoldable pub number : List ℕ → Option (Option ℤ × List ℕ)
 number bytes = do
-  let body = behind_sign bytes
-  size ← if is_hexadecimal body then hexadecimal (drop 2 body) else decimal body
+  size ← unsigned (behind_sign bytes)
   value ← with_sign (begins_with 45 bytes) size.0
   if goes_on_number size.1 then None else Some (value, size.1)
 

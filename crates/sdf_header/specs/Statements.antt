@@ -12,7 +12,7 @@ use Rattle.sdf_header.specs.declared.document.Table as declared_table
 use Rattle.sdf_header.specs.declared.document.Document as declared_document
 use Rattle.sdf_header.specs.Tokens.{Lexeme, Word, Number, Text, Sign, End, Lex, next, fault_at, syntax_at, ◌>>=◌}
 use Rattle.sdf_header.specs.Types.{is_whole, is_char}
-use Rattle.sdf_header.specs.Parts.{or_fault, is_the, sign_at, named, Names, given_of, new_name, size_at, type_at}
+use Rattle.sdf_header.specs.Parts.{or_fault, is_the, sign_at, Name, named, Names, given_of, new_name, size_at, type_at}
 use Rattle.sdf_header.specs.Fields.{Struct, struct_of, struct_at}
 
 -- a name that a statement gives, with its value
@@ -133,17 +133,29 @@ with_struct h t = record { given = h.given; table = Some t }
 abbrev pub second_struct_at : List ℕ → Fault
 second_struct_at = fault_at SecondStruct
 
+-- behind the word `parameter`: one more name
+abbrev pub parameter_statement : Header → List ℕ → Result (Header × List ℕ) Fault
+parameter_statement h bytes = parameter_at h.given bytes >>= λ p. Ok (with_param h p.0, p.1)
+
+-- at the word `struct`: the struct, if none was there before
+abbrev pub struct_statement : Header → Name → Result (Header × List ℕ) Fault
+struct_statement h n =
+    if is_some h.table then Err (second_struct_at n.start) else (struct_at n.rest >>= λ t. Ok (with_struct h t.0, t.1))
+
+-- at the first word of a type: one more name
+abbrev pub typed_statement : Header → Name → Result (Header × List ℕ) Fault
+typed_statement h n = do
+  kind ← type_at n
+  p ← declaration_at kind.0 h.given kind.1
+  Ok (with_param h p.0, p.1)
+
 -- the statement whose first token is l
 unfoldable pub statement_at : Header → Lex → Result (Header × List ℕ) Fault
 statement_at h l = do
   n ← named l
-  if bytes_eq n.name (codes "parameter") then (parameter_at h.given n.rest >>= λ p. Ok (with_param h p.0, p.1))
-      else if bytes_eq n.name (codes "struct") then
-      (if is_some h.table then Err (second_struct_at n.start) else (struct_at n.rest >>= λ t. Ok (with_struct h t.0, t.1)))
-      else (do
-        kind ← type_at n
-        p ← declaration_at kind.0 h.given kind.1
-        Ok (with_param h p.0, p.1))
+  if bytes_eq n.name (codes "parameter") then parameter_statement h n.rest
+      else if bytes_eq n.name (codes "struct") then struct_statement h n
+      else typed_statement h n
 
 -- the token is the end of the text
 abbrev pub is_end : Lexeme → Bool

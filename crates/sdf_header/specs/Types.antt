@@ -8,6 +8,18 @@ use Rattle.sdf_header.specs.declared.kind.Kind.TheVariants as kinds
 use Rattle.sdf_header.specs.declared.document.Column as declared_column
 use Rattle.sdf_header.specs.declared.layout.Col.{Col}
 
+-- the type of one word with this name, where a value has four bytes or eight
+abbrev pub wide_kind : List ℕ → Option Kind
+wide_kind w =
+    if bytes_eq w (codes "int") then Some (kinds.Whole wholes.I32)
+    else if bytes_eq w (codes "int32_t") then Some (kinds.Whole wholes.I32)
+    else if bytes_eq w (codes "uint32_t") then Some (kinds.Whole wholes.U32)
+    else if bytes_eq w (codes "int64_t") then Some (kinds.Whole wholes.I64)
+    else if bytes_eq w (codes "uint64_t") then Some (kinds.Whole wholes.U64)
+    else if bytes_eq w (codes "float") then Some kinds.Float
+    else if bytes_eq w (codes "double") then Some kinds.Double
+    else None
+
 -- the type of one word with this name
 abbrev pub kind_named : List ℕ → Option Kind
 kind_named w =
@@ -17,14 +29,7 @@ kind_named w =
     else if bytes_eq w (codes "short") then Some (kinds.Whole wholes.I16)
     else if bytes_eq w (codes "int16_t") then Some (kinds.Whole wholes.I16)
     else if bytes_eq w (codes "uint16_t") then Some (kinds.Whole wholes.U16)
-    else if bytes_eq w (codes "int") then Some (kinds.Whole wholes.I32)
-    else if bytes_eq w (codes "int32_t") then Some (kinds.Whole wholes.I32)
-    else if bytes_eq w (codes "uint32_t") then Some (kinds.Whole wholes.U32)
-    else if bytes_eq w (codes "int64_t") then Some (kinds.Whole wholes.I64)
-    else if bytes_eq w (codes "uint64_t") then Some (kinds.Whole wholes.U64)
-    else if bytes_eq w (codes "float") then Some kinds.Float
-    else if bytes_eq w (codes "double") then Some kinds.Double
-    else None
+    else wide_kind w
 
 -- the type of `unsigned` and this word
 abbrev pub unsigned_kind : List ℕ → Option Kind

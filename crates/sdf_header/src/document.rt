@@ -9,7 +9,7 @@ use crate::kind::Kind;
 use std::collections::BTreeMap;
 
 /// A name, the text from its first byte on, and the text behind it.
-#[derive(Clone, Copy, Debug)]
+#[derive(Clone, Copy)]
 pub struct Named<'a> {
     pub name: &'a [u8],
     pub start: &'a [u8],
@@ -17,7 +17,7 @@ pub struct Named<'a> {
 }
 
 /// What a statement gives to a name.
-#[derive(Clone, Copy, Debug)]
+#[derive(Clone, Copy)]
 pub enum Value {
     Whole(i128),
     /// A text, a word, or a number that is not whole.
@@ -25,14 +25,14 @@ pub enum Value {
 }
 
 /// A name that a statement gives, with its value.
-#[derive(Clone, Copy, Debug)]
+#[derive(Clone, Copy)]
 pub struct Given<'a> {
     pub name: &'a [u8],
     pub value: Value,
 }
 
 /// A column of the struct, which begins so many bytes behind the beginning of a row.
-#[derive(Clone, Copy, Debug)]
+#[derive(Clone, Copy)]
 pub struct Column<'a> {
     pub name: &'a [u8],
     pub kind: Kind,
@@ -41,7 +41,7 @@ pub struct Column<'a> {
 }
 
 /// The columns so far, and the bytes that they take together.
-#[derive(Debug, Drop)]
+#[derive(Drop)]
 pub struct Columns<'a> {
     pub list: Vec<Column<'a>>,
     pub width: u32,
@@ -50,14 +50,14 @@ pub struct Columns<'a> {
 }
 
 /// The struct, with the stated number of rows.
-#[derive(Debug, Drop)]
+#[derive(Drop)]
 pub struct Table<'a> {
     pub columns: Columns<'a>,
     pub size: Option<u64>,
 }
 
 /// The statements of a header: the values that they give to names, and the struct.
-#[derive(Debug, Drop)]
+#[derive(Drop)]
 pub struct Document<'a> {
     pub given: BTreeMap<&'a [u8], Value>,
     pub table: Option<Table<'a>>,

@@ -14,7 +14,7 @@ pub enum Whole {
 }
 
 /// The type of a value or a column.
-#[derive(Clone, Copy, Debug, PartialEq, Eq)]
+#[derive(Clone, Copy)]
 pub enum Kind {
     Whole(Whole),
     Char,

@@ -2,11 +2,11 @@
 
 ghost use Rattle.std.specs.Prelude.{◌≡◌, ◌≤◌, ◌<◌, length, ℕ, Ok, IfOk};
 ghost use Rattle.sdf_header.specs.Tokens.{Is, lex_of, lexeme_of, Advances};
-ghost use Rattle.sdf_header.specs.Parts.{Gives, given_of};
-ghost use Rattle.sdf_header.specs.Statements.{param_of, param_and_rest, header_of, param_end, number_value, value_of, parameter_at, number_for, is_text, text_at, value_at, declaration_at, with_param, statement_at, is_end, header_in};
+ghost use Rattle.sdf_header.specs.Parts.{Gives, given_of, name_of};
+ghost use Rattle.sdf_header.specs.Statements.{param_of, param_and_rest, header_of, param_end, number_value, value_of, parameter_at, number_for, is_text, text_at, value_at, declaration_at, with_param, parameter_statement, struct_statement, typed_statement, statement_at, is_end, header_in};
 
 use crate::columns::struct_at;
-use crate::document::{Document, Given, Value};
+use crate::document::{Document, Given, Named, Value};
 use crate::fault::{Fault, FaultKind, Stop};
 use crate::kind::Kind;
 use crate::parts::{is_the, named, new_name, sign_at, size_at, type_at};
@@ -134,6 +134,44 @@ fn give<'a>(document: &mut Document<'a>, given: Given<'a>) -> Result<(), Stop>
     Ok(())
 }
 
+/// What is behind the statement of a parameter, from behind its word.
+fn parameter_statement<'a>(document: &mut Document<'a>, bytes: &'a [u8]) -> Result<&'a [u8], Stop>
+    ensures exact { Gives (λ rest. (header_of document.new, rest.now)) result (parameter_statement (header_of document.old) bytes.now) }
+    ensures shorter { IfOk result (λ rest. length rest.now ≤ length bytes.now) }
+{
+    let (given, rest) = parameter_at(&document.given, bytes)?;
+    give(document, given)?;
+    Ok(rest)
+}
+
+/// What is behind the struct, from its word on.
+fn struct_statement<'a>(
+    alloc: Global,
+    document: &mut Document<'a>,
+    n: Named<'a>,
+) -> Result<&'a [u8], Stop>
+    ensures exact { Gives (λ rest. (header_of document.new, rest.now)) result (struct_statement (header_of document.old) (name_of n.entry)) }
+    ensures shorter { IfOk result (λ rest. length rest.now ≤ length n.entry.rest.now) }
+{
+    if document.table.is_some() {
+        return Err(Stop::Fault(fault_at(FaultKind::SecondStruct, n.start)));
+    }
+    let (table, rest) = struct_at(alloc, n.rest)?;
+    document.table = Some(table);
+    Ok(rest)
+}
+
+/// What is behind a statement that begins with a type.
+fn typed_statement<'a>(document: &mut Document<'a>, n: Named<'a>) -> Result<&'a [u8], Stop>
+    ensures exact { Gives (λ rest. (header_of document.new, rest.now)) result (typed_statement (header_of document.old) (name_of n.entry)) }
+    ensures shorter { IfOk result (λ rest. length rest.now ≤ length n.entry.rest.now) }
+{
+    let (kind, rest) = type_at(n)?;
+    let (given, rest) = declaration_at(kind, &document.given, rest)?;
+    give(document, given)?;
+    Ok(rest)
+}
+
 #[tactic(auto, unfolding(crate::specs::Statements::statement_at))]
 fn statement_at<'a>(
     alloc: Global,
@@ -145,22 +183,12 @@ fn statement_at<'a>(
 {
     let n = named(l)?;
     if n.name == b"parameter".as_slice() {
-        let (given, rest) = parameter_at(&document.given, n.rest)?;
-        give(document, given)?;
-        return Ok(rest);
+        return parameter_statement(document, n.rest);
     }
     if n.name == b"struct".as_slice() {
-        if document.table.is_some() {
-            return Err(Stop::Fault(fault_at(FaultKind::SecondStruct, n.start)));
-        }
-        let (table, rest) = struct_at(alloc, n.rest)?;
-        document.table = Some(table);
-        return Ok(rest);
+        return struct_statement(alloc, document, n);
     }
-    let (kind, rest) = type_at(n)?;
-    let (given, rest) = declaration_at(kind, &document.given, rest)?;
-    give(document, given)?;
-    Ok(rest)
+    typed_statement(document, n)
 }
 
 fn is_end(token: Token<'_>) -> bool

@@ -1,14 +1,14 @@
 //! The next token of a text.
 
 ghost use Rattle.std.specs.Prelude.{◌≡◌, length, suc, IfOk, IfSome, ◌≤◌, ◌<◌};
-ghost use Rattle.sdf_header.specs.Numbers.{sees_rest};
-ghost use Rattle.sdf_header.specs.Tokens.{Is, lex_of, is_blank, begins_word, is_sign, behind_close, blank_at, past_blanks, behind_text, token_at, next, fault_at, syntax_at, Advances};
+ghost use Rattle.sdf_header.specs.Numbers.{number, sees_rest};
+ghost use Rattle.sdf_header.specs.Tokens.{Is, lex_of, is_blank, begins_word, is_sign, behind_close, blank_at, past_blanks, behind_text, text_lex, number_lex, token_at, next, fault_at, syntax_at, Advances};
 
 use crate::fault::{Fault, FaultKind};
 use crate::limits::MAX_TEXT_BYTES;
 use crate::number::{Class, begins_with, number, run};
 
-#[derive(Clone, Copy, Debug)]
+#[derive(Clone, Copy)]
 pub enum Token<'a> {
     Word(&'a [u8]),
     /// A number, with its value where it is whole.
@@ -19,7 +19,7 @@ pub enum Token<'a> {
 }
 
 /// A token, the text from its first byte on, and the text behind it.
-#[derive(Clone, Copy, Debug)]
+#[derive(Clone, Copy)]
 pub struct Lexed<'a> {
     pub token: Token<'a>,
     pub start: &'a [u8],
@@ -125,6 +125,37 @@ fn behind_text(bytes: &[u8]) -> Option<&[u8]>
     }
 }
 
+/// The text whose quote begins these bytes, from what is behind the quote.
+fn text_lex<'a>(start: &'a [u8], behind: &'a [u8]) -> Result<Lexed<'a>, Fault>
+    requires { length behind.now < length start.now }
+    ensures exact { Is lex_of result (text_lex start.now (behind_text behind.now)) }
+    ensures shorter { IfOk result (λ l. Advances l.token (length l.rest.now) (length start.now)) }
+{
+    match behind_text(behind) {
+        Some(rest) => Ok(Lexed {
+            token: Token::Text,
+            start,
+            rest,
+        }),
+        None => Err(syntax_at(start)),
+    }
+}
+
+/// The number that begins these bytes.
+fn number_lex(start: &[u8]) -> Result<Lexed<'_>, Fault>
+    ensures exact { Is lex_of result (number_lex start.now (number start.now)) }
+    ensures shorter { IfOk result (λ l. Advances l.token (length l.rest.now) (length start.now)) }
+{
+    match number(start) {
+        Some((value, rest)) => Ok(Lexed {
+            token: Token::Number(value),
+            start,
+            rest,
+        }),
+        None => Err(syntax_at(start)),
+    }
+}
+
 #[tactic(auto, unfolding(crate::specs::Tokens::token_at))]
 fn token_at(start: &[u8]) -> Result<Lexed<'_>, Fault>
     ensures exact { Is lex_of result (token_at start.now) }
@@ -138,23 +169,25 @@ fn token_at(start: &[u8]) -> Result<Lexed<'_>, Fault>
         });
     };
     let byte = *byte;
-    let (token, rest) = if begins_word(byte) {
+    if begins_word(byte) {
         let (word, rest) = run(Class::Word, start);
-        (Token::Word(word), rest)
-    } else if is_sign(byte) {
-        (Token::Sign(byte), behind)
-    } else if byte == b'"' {
-        let Some(rest) = behind_text(behind) else {
-            return Err(syntax_at(start));
-        };
-        (Token::Text, rest)
-    } else {
-        let Some((value, rest)) = number(start) else {
-            return Err(syntax_at(start));
-        };
-        (Token::Number(value), rest)
-    };
-    Ok(Lexed { token, start, rest })
+        return Ok(Lexed {
+            token: Token::Word(word),
+            start,
+            rest,
+        });
+    }
+    if is_sign(byte) {
+        return Ok(Lexed {
+            token: Token::Sign(byte),
+            start,
+            rest: behind,
+        });
+    }
+    if byte == b'"' {
+        return text_lex(start, behind);
+    }
+    number_lex(start)
 }
 
 /// The next token, behind blanks and comments.

@@ -1,7 +1,7 @@
 //! The types of values and columns, by their names.
 
 ghost use Rattle.std.specs.Prelude.{◌≡◌, ◌≤◌};
-ghost use Rattle.sdf_header.specs.Types.{kind_named, unsigned_kind, is_whole, is_char, bytes_of};
+ghost use Rattle.sdf_header.specs.Types.{kind_named, wide_kind, unsigned_kind, is_whole, is_char, bytes_of};
 
 use crate::kind::{Kind, Whole};
 
@@ -21,7 +21,16 @@ pub fn kind_named(word: &[u8]) -> Option<Kind>
         Some(Kind::Whole(Whole::I16))
     } else if word == b"uint16_t".as_slice() {
         Some(Kind::Whole(Whole::U16))
-    } else if word == b"int".as_slice() {
+    } else {
+        wide_kind(word)
+    }
+}
+
+/// The type of one word with this name, where a value has four bytes or eight.
+fn wide_kind(word: &[u8]) -> Option<Kind>
+    ensures { result ≡ wide_kind word.now }
+{
+    if word == b"int".as_slice() {
         Some(Kind::Whole(Whole::I32))
     } else if word == b"int32_t".as_slice() {
         Some(Kind::Whole(Whole::I32))
