@@ -73,6 +73,7 @@ same_results v w u s h k started fed over = record {
       ((λ m. y.0 (x.1 m)), (λ m. x.0 (y.1 m)));
 }
 
+-- what a finished rank gives is the same in all worlds of which the letters that it took are true
 pub rests_on_letters : {V A : Type 0} (v : visits.Ghosts V A) (a : seens.Ghosts A) (w u : World) (es : List Event) (s t : RankState V A) → StandsIn v a w s → StandsIn v a u s
     → AllTrue w (taken_in es) → AllTrue u (taken_in es) → Lead v a es s t → IsFinished t → SameResults (meant_by v a (visit_of s)) (seat_of s).me w u
 unfolding StandsIn seat_of visit_of
@@ -82,6 +83,7 @@ rests_on_letters {V} {A} v a w u es s t h k told also lead f =
     let r = same_results (meant_by v a t.walk.visit) w u t.walk x.stands.holds.walks y.stands.holds.walks f.started f.awake f.none in
     subst (λ (q : ℕ). SameResults (meant_by v a s.walk.visit) q w u) (x.stands.holds.same ∙ x.me) (subst (λ (z : V). SameResults (meant_by v a z) t.walk.me w u) x.visit r)
 
+-- a rank that stands for a world is finished exactly where its seat is
 pub seats_tell : {V A : Type 0} (v : visits.Ghosts V A) (a : seens.Ghosts A) (w : World) (s : RankState V A) → StandsIn v a w s → IsFinished s ↔ Finished (seat_of s)
 unfolding StandsIn
 seats_tell v a w s h = ((λ f. seat_finished (meant_by v a s.walk.visit) w s h f), (λ f. finished_of (meant_by v a s.walk.visit) w s h f))

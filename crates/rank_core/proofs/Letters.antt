@@ -21,7 +21,7 @@ use Rattle.rank_core.proofs.Taking.{times_has, told_more}
 use Rattle.std.proofs.lemmas.Bool.{ne_eqb}
 
 -- a letter that tells or asks answers nothing
-tells_only : (c : Content) → kind_of c ≡ kinds.Branches → answered_in c ≡ []
+pub tells_only : (c : Content) → kind_of c ≡ kinds.Branches → answered_in c ≡ []
 tells_only (content.Branches rs) e = refl
 tells_only (content.Asks ks) e = refl
 tells_only (content.Answers xs) e = (let f : kinds.Answers ≡ kinds.Branches = e in cc)
@@ -37,15 +37,17 @@ fresh_branches s p (content.Branches rs) e h = h
 fresh_branches s p (content.Asks ks) e h = (let f : kinds.Asks ≡ kinds.Branches = e in cc)
 fresh_branches s p (content.Answers xs) e h = (let f : kinds.Answers ≡ kinds.Branches = e in cc)
 
+-- asks, where the inbox is empty
 pub fresh_asks : (s : Seat) (p : ℕ) (c : Content) → kind_of c ≡ kinds.Asks → s.inbox ≡ [] → FreshContent s p c
 fresh_asks s p (content.Branches rs) e h = (let f : kinds.Branches ≡ kinds.Asks = e in cc)
 fresh_asks s p (content.Asks ks) e h = λ k m. ap (λ (ls : List LetterValue). times k (asked_by p ls)) h
 fresh_asks s p (content.Answers xs) e h = (let f : kinds.Answers ≡ kinds.Asks = e in cc)
 
-pub fresh_answers : (s : Seat) (p : ℕ) (c : Content) → kind_of c ≡ kinds.Answers → ((k : ℕ) → Contains (answered_in c) k → Contains s.asked k) → ((k : ℕ) → times k s.answered + times k (all_answered s.inbox) ≡ 0) → FreshContent s p c
-fresh_answers s p (content.Branches rs) e h n = (let f : kinds.Branches ≡ kinds.Answers = e in cc)
-fresh_answers s p (content.Asks ks) e h n = (let f : kinds.Asks ≡ kinds.Answers = e in cc)
-fresh_answers s p (content.Answers xs) e h n = λ k m. (h k m, n k)
+-- answers for cells that it asked for, and whose answers it has not got
+pub fresh_answers : (s : Seat) (p : ℕ) (c : Content) → kind_of c ≡ kinds.Answers → ((k : ℕ) → Contains (answered_in c) k → Contains s.asked k × (times k s.answered + times k (all_answered s.inbox) ≡ 0)) → FreshContent s p c
+fresh_answers s p (content.Branches rs) e h = (let f : kinds.Branches ≡ kinds.Answers = e in cc)
+fresh_answers s p (content.Asks ks) e h = (let f : kinds.Asks ≡ kinds.Answers = e in cc)
+fresh_answers s p (content.Answers xs) e h = h
 
 -- a letter to some rank
 each_has : (g : ℕ → List LetterValue) (n : ℕ) (l : LetterValue) → Contains (each_below g n) l → (q : ℕ) × Contains (g q) l
@@ -126,6 +128,7 @@ pub record Sent (w : World) (s t : Seat) (l : LetterValue) : Type 0 where
   pub asked : t.asked ≡ s.asked ++ fresh
   pub sent : Contains (s.outbox ++ sends w s fresh) l
 
+-- a step, one letter given out, and an empty outbox behind it
 pub sent_one : (opens : BodyValue → CellValue → Bool) (w : World) (s a b t : Seat) (l : LetterValue) → Moves opens w s a → PopsOut a (Some l) b → t ≡ b → t.outbox ≡ [] → Sent w s t l
 sent_one opens w s a b t l m p e o = record {
   me = ap (λ (x : Seat). x.me) e ∙ (ap (λ (x : Seat). x.me) p.1 ∙ m.me);
@@ -170,6 +173,7 @@ none_new q r s n c =
     let b : times c (all_answered s.inbox) ≡ 0 = ap (λ (ls : List LetterValue). times c (all_answered ls)) n.inbox in
     omega (arith, a, b)
 
+-- a new rank that has made its first step has heard nobody
 pub unheard_new : (w : World) (q r p : ℕ) (s t : Seat) (l : LetterValue) → IsNew q r s → Sent w s t l → times p t.heard + times p (all_told t.inbox) ≡ 0
 unheard_new w q r p s t l n x =
     let a : times p s.heard ≡ 0 = ap (times p) n.heard in
@@ -178,7 +182,8 @@ unheard_new w q r p s t l n x =
     let d = x.heard p in
     omega (arith, a, b, c, d)
 
-if_has : (b : Bool) (ks : List ℕ) (k : ℕ) → Contains ((if b then ks else []) ++ []) k → Contains ks k
+-- what is asked for in a letter, if it is counted
+pub if_has : (b : Bool) (ks : List ℕ) (k : ℕ) → Contains ((if b then ks else []) ++ []) k → Contains ks k
 if_has true ks k m = elim (Contains-append_cases ks [] k m) [ inl f ↦ f | inr f ↦ absurd (nil_has k f) ]
 if_has false ks k m = absurd (nil_has k m)
 
@@ -193,16 +198,15 @@ asks_of w q s t u r v l k h x e i f = λ c m.
 -- the answer of a ready rank may be taken by the rank that asked
 pub answer_fits : (w : World) (p q : ℕ) (s t r v : Seat) (l k : LetterValue) → IsReady p s → IsReady q r → Asks s r → Sent w s t k → Sent w r v l → l.to ≡ p → kind_of l.content ≡ kinds.Answers → IsFresh t l
 answer_fits w p q s t r v l k hs hr asks x y to kind =
-    fresh_answers t l.from l.content kind
-    (λ c m.
-    let a = sent_answers w r y.fresh l c hr.begun (subst (λ (ls : List LetterValue). Contains (ls ++ sends w r y.fresh) l) hr.outbox y.sent) m in
-    let b = asks c (subst (λ (z : ℕ). Contains (asked_by z r.inbox) c) (to ∙ sym hs.me) a) in
-    subst (λ (ks : List ℕ). Contains ks c) (sym x.asked) (Contains-append_left s.asked x.fresh c b))
-    (λ c.
-    let a : times c (all_answered t.inbox) ≡ 0 = ap (λ (ls : List LetterValue). times c (all_answered ls)) x.inbox in
-    let b = x.answered c in
-    let n = hs.none c in
-    omega (arith, a, b, n))
+    fresh_answers t l.from l.content kind (λ c m. (
+      let a = sent_answers w r y.fresh l c hr.begun (subst (λ (ls : List LetterValue). Contains (ls ++ sends w r y.fresh) l) hr.outbox y.sent) m in
+          let b = asks c (subst (λ (z : ℕ). Contains (asked_by z r.inbox) c) (to ∙ sym hs.me) a) in
+          subst (λ (ks : List ℕ). Contains ks c) (sym x.asked) (Contains-append_left s.asked x.fresh c b),
+      let a : times c (all_answered t.inbox) ≡ 0 = ap (λ (ls : List LetterValue). times c (all_answered ls)) x.inbox in
+          let b = x.answered c in
+          let n = hs.none c in
+          omega (arith, a, b, n),
+    ))
 
 -- a new rank that has made its first step, and has given out two letters, has heard nobody
 pub unheard_two : (opens : BodyValue → CellValue → Bool) (w : World) (q r : ℕ) (s a b c t : Seat) (l k : LetterValue) → IsNew q r s → Moves opens w s a → PopsOut a (Some l) b → PopsOut b (Some k) c → t ≡ c → HeardNone t
@@ -222,12 +226,11 @@ told_one q (content.Branches rs) p d = (let e : eqb p q ≡ false = ne_eqb p q d
 told_one q (content.Asks ks) p d = refl
 told_one q (content.Answers xs) p d = refl
 
--- the branches of another rank may be taken too
-pub unheard_other : (s t : Seat) (l : LetterValue) (p : ℕ) → HeardNone s → t ≡ with_letter s l → l.from ≢ p → times p t.heard + times p (all_told t.inbox) ≡ 0
+-- a rank that has not heard another one has not heard it behind a letter of a third one
+pub unheard_other : (s t : Seat) (l : LetterValue) (p : ℕ) → times p s.heard + times p (all_told s.inbox) ≡ 0 → t ≡ with_letter s l → l.from ≢ p → times p t.heard + times p (all_told t.inbox) ≡ 0
 unheard_other s t l p h e d =
     let a : times p t.heard ≡ times p s.heard = ap (λ (z : Seat). times p z.heard) e in
     let b : times p (all_told t.inbox) ≡ times p (all_told (s.inbox ++ l ∷ [])) = ap (λ (z : Seat). times p (all_told z.inbox)) e in
     let f = told_more p s.inbox l in
     let g = told_one l.from l.content p (λ i. d (sym i)) in
-    let n = h p in
-    omega (arith, a, b, f, g, n)
+    omega (arith, a, b, f, g, h)

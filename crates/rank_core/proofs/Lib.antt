@@ -19,3 +19,4 @@ pub mod Samples
 pub mod Calls
 pub mod Agreeing
 pub mod Letters
+pub mod Rows

@@ -28,14 +28,17 @@ listed = record {
     counted (suc zero) d h = refl
     counted (suc (suc i)) d h = absurd (omega (arith, h))
 
+-- both bodies on one rank
 pub here_alone : IsHere one 0 1 (near ∷ far ∷ []) None None 8
 unfolding key_to greatest least
 here_alone = record { good = good_of (record { bodies = near ∷ far ∷ []; cuts = []; leaf = 8; me = 0 }) listed; bodies_are = refl; ranks_are = refl; leaf_is = refl; left_is = refl; right_is = refl }
 
+-- the first of two ranks
 pub here_first : IsHere two 0 2 (near ∷ []) None (Some 9223372036854776064) 8
 unfolding key_to greatest least
 here_first = record { good = good_of (record { bodies = near ∷ far ∷ []; cuts = 9223372036854776064 ∷ []; leaf = 8; me = 0 }) listed; bodies_are = refl; ranks_are = refl; leaf_is = refl; left_is = refl; right_is = refl }
 
+-- the second of two ranks
 pub here_second : IsHere two 1 2 (far ∷ []) (Some 9223372036854775808) None 8
 unfolding key_to greatest least
 here_second = record { good = good_of (record { bodies = near ∷ far ∷ []; cuts = 9223372036854776064 ∷ []; leaf = 8; me = 0 }) listed; bodies_are = refl; ranks_are = refl; leaf_is = refl; left_is = refl; right_is = refl }
@@ -76,14 +79,17 @@ crowd_listed = record {
 five_good : IsGood five
 five_good = good_of (record { bodies = crowd; cuts = 18446744073709551615 ∷ 18446744073709551615 ∷ []; leaf = 8; me = 0 }) crowd_listed
 
+-- the first of three ranks, with the crowd
 pub here_crowd : IsHere five 0 3 crowd None None 8
 unfolding key_to greatest least
 here_crowd = record { good = five_good; bodies_are = refl; ranks_are = refl; leaf_is = refl; left_is = refl; right_is = refl }
 
+-- the second, without bodies
 pub here_empty : IsHere five 1 3 [] (Some 9223372036854776263) None 8
 unfolding key_to greatest least
 here_empty = record { good = five_good; bodies_are = refl; ranks_are = refl; leaf_is = refl; left_is = refl; right_is = refl }
 
+-- the third, without bodies
 pub here_last : IsHere five 2 3 [] (Some 9223372036854776263) None 8
 unfolding key_to greatest least
 here_last = record { good = five_good; bodies_are = refl; ranks_are = refl; leaf_is = refl; left_is = refl; right_is = refl }

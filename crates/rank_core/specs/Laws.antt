@@ -18,13 +18,14 @@ pub data Event : Type 0 where
   Take : LetterValue → Event
   Give : Option LetterValue → Event
 
--- the letters that were taken, and those that came out
+-- the letters that were taken
 abbrev pub taken_in : List Event → List LetterValue
 taken_in [] = []
 taken_in (Step ∷ es) = taken_in es
 taken_in (Take l ∷ es) = l ∷ taken_in es
 taken_in (Give o ∷ es) = taken_in es
 
+-- those that came out
 abbrev pub given_in : List Event → List LetterValue
 given_in [] = []
 given_in (Step ∷ es) = given_in es

@@ -18,10 +18,11 @@ use Rattle.rank_core.specs.Standing.{Holds, IsOpen, meant_by}
 use Rattle.hot_model.specs.declared.visit.Visit as visits
 use Rattle.hot_model.specs.declared.visit.Seen as seens
 
--- the keys of items of an answers letter, and that each has the owner's answer
+-- the keys of items of an answers letter
 abbrev pub item_keys : List Answered → List ℕ
 item_keys xs = map (λ a. a.key) xs
 
+-- each item has the answer of its cell's owner
 abbrev pub AreAnswers : World → List Answered → Type 0
 AreAnswers w xs = All (λ a. a.answer ≡ true_answer w a.key) xs
 
@@ -59,10 +60,11 @@ pub record CanRead {V A : Type 0} (v : VisitOf A) (w : World) (s : State) (walk 
   pub each : All (λ r. IsRequest w s.place.me s.place.me r) rs
   pub once : (q k : ℕ) → times k (keys_for q rs) + (times k (asked_by q s.inbox.items) + times k (if eqb q l.from then asked_in l.content else [])) ≤ 1
 
--- the ranks that were heard, and the cells that were answered, with these more
+-- the ranks that were heard, with these more
 abbrev pub Hears : State → State → List ℕ → Type 0
 Hears s t ps = (p : ℕ) → times p (others_heard t) ≡ times p (others_heard s) + times p ps
 
+-- the cells that were answered, with these more
 abbrev pub Stores : {V A : Type 0} → WalkState V A → WalkState V A → List ℕ → Type 0
 Stores old new ks = (k : ℕ) → times k (answered_keys new.slots) ≡ times k (answered_keys old.slots) + times k ks
 
@@ -70,9 +72,10 @@ Stores old new ks = (k : ℕ) → times k (answered_keys new.slots) ≡ times k 
 abbrev pub Notes : List Request → List Request → LetterValue → Type 0
 Notes old new l = (q k : ℕ) → times k (keys_for q new) ≡ times k (keys_for q old) + times k (if eqb q l.from then asked_in l.content else [])
 
--- the same, by the members of the visit's traits; and what is so in each world in which the letter can be read
+-- the same, by the members of the visit's traits
 abbrev pub CanReadIn : {V A : Type 0} → visits.Ghosts V A → seens.Ghosts A → World → State → WalkState V A → List Request → LetterValue → Type 0
 CanReadIn v a w s walk rs l = CanRead (meant_by v a walk.visit) w s walk rs l
 
+-- in each world in which the letter can be read this is so
 abbrev pub WhereRead : {V A : Type 0} → visits.Ghosts V A → seens.Ghosts A → State → WalkState V A → List Request → LetterValue → (World → Type 0) → Type 0
 WhereRead v a s walk rs l P = (w : World) → CanReadIn v a w s walk rs l → P w

@@ -42,26 +42,29 @@ branches_to me list q = if eqb q me then [] else record { from = me; to = q; con
 abbrev pub branches_letter : World → (me q : ℕ) → List LetterValue
 branches_letter w me q = branches_to me (branch_records w me) q
 
--- a number in its place in an ascending list, and a list by ascending numbers
+-- a number in its place in an ascending list
 abbrev pub placed_key : ℕ → List ℕ → List ℕ
 placed_key k [] = k ∷ []
 placed_key k (x ∷ xs) = if leb k x then k ∷ x ∷ xs else x ∷ placed_key k xs
 
+-- a list by ascending numbers
 abbrev pub sorted_keys : List ℕ → List ℕ
 sorted_keys [] = []
 sorted_keys (k ∷ ks) = placed_key k (sorted_keys ks)
 
--- what a letter of rank `from` with this content tells: that its branches came, what it asks for, what it answers for
+-- the rank whose branches a letter of rank `from` with this content tells
 abbrev pub told_in : ℕ → Content → List ℕ
 told_in from (content.Branches rs) = from ∷ []
 told_in from (content.Asks ks) = []
 told_in from (content.Answers xs) = []
 
+-- the cells that a content asks for
 abbrev pub asked_in : Content → List ℕ
 asked_in (content.Branches rs) = []
 asked_in (content.Asks ks) = ks
 asked_in (content.Answers xs) = []
 
+-- the cells that a content answers for
 abbrev pub answered_in : Content → List ℕ
 answered_in (content.Branches rs) = []
 answered_in (content.Asks ks) = []
@@ -154,10 +157,11 @@ pub record Finished (s : Seat) : Type 0 where
   pub inbox : s.inbox ≡ []
   pub outbox : s.outbox ≡ []
 
--- the seat with another outbox, or another inbox
+-- the seat with another outbox
 abbrev pub with_outbox : Seat → List LetterValue → Seat
 with_outbox s ls = record { me = s.me; ranks = s.ranks; begun = s.begun; heard = s.heard; asked = s.asked; answered = s.answered; inbox = s.inbox; outbox = ls; done = s.done; starved = s.starved }
 
+-- the seat with another inbox
 abbrev pub with_inbox : Seat → List LetterValue → Seat
 with_inbox s ls = record { me = s.me; ranks = s.ranks; begun = s.begun; heard = s.heard; asked = s.asked; answered = s.answered; inbox = ls; outbox = s.outbox; done = s.done; starved = s.starved }
 
@@ -168,6 +172,7 @@ FreshContent s from (content.Branches rs) = times from s.heard + times from (all
 FreshContent s from (content.Asks ks) = (c : ℕ) → Contains ks c → times c (asked_by from s.inbox) ≡ 0
 FreshContent s from (content.Answers xs) = (c : ℕ) → Contains (map (λ a. a.key) xs) c → Contains s.asked c × (times c s.answered + times c (all_answered s.inbox) ≡ 0)
 
+-- a rank may take the letter
 abbrev pub IsFresh : Seat → LetterValue → Type 0
 IsFresh s l = FreshContent s l.from l.content
 

@@ -48,6 +48,11 @@ pub record IsFinished {V A : Type 0} (s : RankState V A) : Type 0 where
   pub inbox : s.state.inbox.items ≡ []
   pub outbox : s.state.outbox.items ≡ []
 
+-- t is s, but starved: all else stays, and so do the letters of its inbox, whose room is not told
+pub record OnlyStarves {V A : Type 0} (s t : RankState V A) : Type 0 where
+  pub rest : t ≡ record s { state = record s.state { inbox = t.state.inbox; starved = true } }
+  pub inbox : t.state.inbox.items ≡ s.state.inbox.items
+
 -- its visit
 unfoldable pub visit_of : {V A : Type 0} → RankState V A → V
 visit_of s = s.walk.visit

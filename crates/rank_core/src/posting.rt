@@ -1,6 +1,7 @@
 //! The letters that a rank puts into its outbox: at most one of a kind to each other rank, by
 //! ascending receiver.
-ghost use Rattle.std.specs.Prelude.{◌≡◌, ◌≢◌, ◌<◌, ◌≤◌, ◌++◌, ℕ, length, map, All, IfOk, OnOk, OnErr};
+ghost use Rattle.std.specs.Prelude.{◌≡◌, ◌≢◌, ◌<◌, ◌≤◌, ◌++◌, ℕ, length, map, All, IfOk, OnOk};
+ghost use Rattle.std.specs.Prelude.{OnErr};
 ghost use Rattle.hot_model.specs.Limits.{max_ranks};
 ghost use Rattle.cell_mail.specs.declared.content.Content.TheVariants as content;
 ghost use Rattle.cell_mail.specs.Grammar.{HasSpelling};

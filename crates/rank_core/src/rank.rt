@@ -1,12 +1,18 @@
 #![tactic(auto, unfolding(crate::specs::Standing::StandsIn, crate::specs::Seats::seat_of, crate::specs::Seats::visit_of))]
 
-ghost use Rattle.std.specs.Prelude.{◌≡◌, ◌<◌, ◌≤◌, ◌↔◌, true, false, IfSome, IfOk, OnOk, OnErr, IsErr, IsTrue};
+ghost use Rattle.std.specs.Prelude.{◌≡◌, ◌<◌, ◌≤◌, ◌↔◌, true, false, IfSome, IfOk, OnOk, OnErr};
+ghost use Rattle.std.specs.Prelude.{IsErr, IsTrue};
 ghost use Rattle.std.specs.List.Sorted.{IsStrictlyIncreasing};
 ghost use Rattle.hot_model.specs.Limits.{max_ranks, max_leaf};
 ghost use Rattle.hot_model.specs.World.{World};
-ghost use Rattle.rank_core.specs.Standing.{HoldsSomewhere, WhereHolds, StillHolds, StandsIn, MadeIn, FitsAWorld, HasWalked, IsAwake, IsHere, meant_by};
+ghost use Rattle.rank_core.specs.Standing.{HoldsSomewhere, WhereHolds, StillHolds, StandsIn};
+ghost use Rattle.rank_core.specs.Standing.{MadeIn, FitsAWorld, HasWalked, IsAwake, IsHere};
+ghost use Rattle.rank_core.specs.Standing.{meant_by};
 ghost use Rattle.rank_core.specs.Seat.{HeardAll, IsFresh, Moves, refused, with_letter};
-ghost use Rattle.rank_core.specs.Seats.{seat_at, seat_of, visit_of, IsMade, IsFinished, Popped, Stepped, GoesOn, FitsALetter, StandsByLetter, IsItsLetter, AreFolds, AreNeeded, AreOpened, AreOpenedCells};
+ghost use Rattle.rank_core.specs.Seats.{seat_at, seat_of, visit_of, OnlyStarves, IsMade};
+ghost use Rattle.rank_core.specs.Seats.{IsFinished, Popped, Stepped, GoesOn, FitsALetter};
+ghost use Rattle.rank_core.specs.Seats.{StandsByLetter, IsItsLetter, AreFolds, AreNeeded};
+ghost use Rattle.rank_core.specs.Seats.{AreOpened, AreOpenedCells};
 
 use crate::heard::Heard;
 use crate::place::Place;
@@ -149,8 +155,10 @@ impl<V: Visit> Rank<V> {
         ensures kept { StandsByLetter V.Visit V.Acc.Seen self.old letter self.new }
         ensures ok { OnOk result (seat_of self.new ≡ with_letter (seat_of self.old) letter) }
         ensures err { OnErr result (seat_of self.new ≡ refused (seat_of self.old)) }
+        ensures left { OnErr result (OnlyStarves self.old self.new) }
         ensures visit { visit_of self.new ≡ visit_of self.old }
         ensures starved { (seat_of self.old).starved ≡ true → IsErr result }
+        ensures idle { (seat_of self.old).starved ≡ true → self.new ≡ self.old }
     {
         if self.state.starved {
             return Err(AllocError);

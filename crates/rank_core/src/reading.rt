@@ -4,8 +4,10 @@ ghost use Rattle.hot_model.specs.World.{World};
 ghost use Rattle.defer_walk.specs.Standing.{answer_of};
 ghost use Rattle.rank_core.specs.Times.{times};
 ghost use Rattle.rank_core.specs.Part.{AreAsked};
-ghost use Rattle.rank_core.specs.Standing.{HoldsIn, HoldsSomewhere, WhereHolds, StillHolds, WalkStands, IsOpen};
-ghost use Rattle.rank_core.specs.Reading.{AreAnswers, AreTaken, CanReadIn, Hears, Notes, Reads, Stores, Supplies, WhereRead, item_keys};
+ghost use Rattle.rank_core.specs.Standing.{HoldsIn, HoldsSomewhere, WhereHolds, StillHolds};
+ghost use Rattle.rank_core.specs.Standing.{WalkStands, IsOpen};
+ghost use Rattle.rank_core.specs.Reading.{AreAnswers, AreTaken, CanReadIn, Hears, Notes, Reads};
+ghost use Rattle.rank_core.specs.Reading.{Stores, Supplies, WhereRead, item_keys};
 ghost use Rattle.rank_core.specs.Seat.{all_answered, all_told, answered_in, told_in};
 ghost use Rattle.rank_core.specs.Sending.{AskSame};
 

@@ -1,6 +1,7 @@
 ghost use Rattle.std.specs.Prelude.{◌≡◌, List, true, not, map, IsSome, IfSome, IfOk, OnOk, OnErr};
 ghost use Rattle.hot_model.specs.World.{World};
-ghost use Rattle.rank_core.specs.Part.{IsPartOf, WherePart, Adds, AreAsked, AreAsking, AreAllHeard, SameBut, OnlyPosts, OnlyMerges, is_there};
+ghost use Rattle.rank_core.specs.Part.{IsPartOf, WherePart, Adds, AreAsked, AreAsking, AreAllHeard};
+ghost use Rattle.rank_core.specs.Part.{SameBut, OnlyPosts, OnlyMerges, is_there};
 ghost use Rattle.cell_mail.specs.Letters.{LetterValue};
 ghost use Rattle.rank_core.specs.RankTree.{IsRankTree};
 ghost use Rattle.rank_core.specs.Seat.{each_below, answers_for, asks_for};

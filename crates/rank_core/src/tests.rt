@@ -3,7 +3,8 @@ ghost use Rattle.std.specs.Prelude.{◌≡◌, ◌≢◌, [], false, Some};
 ghost use Rattle.cell_mail.specs.Letters.{kind_of};
 ghost use Rattle.hot_model.specs.World.{World};
 ghost use Rattle.rank_core.specs.Seat.{IsFresh, IsNew, Moves, with_letter};
-ghost use Rattle.rank_core.specs.Seats.{FitsALetter, IsItsLetter, Popped, StandsByLetter, seat_of, visit_of};
+ghost use Rattle.rank_core.specs.Seats.{FitsALetter, IsItsLetter, Popped, StandsByLetter, seat_of};
+ghost use Rattle.rank_core.specs.Seats.{visit_of};
 ghost use Rattle.rank_core.specs.Standing.{FitsAWorld, StandsIn};
 ghost use Rattle.rank_core.specs.Samples as samples;
 
@@ -16,6 +17,8 @@ use hot_model::{Body, Visit, body_of};
 use std::alloc::Global;
 use std::process::Abort;
 use std::rt::HostRuntime;
+
+mod many;
 
 /// The keys of the places 0, 0, 0 and 1024, 0, 0, and of that of the crowd.
 const NEAR: u64 = 9_223_372_036_854_775_808;

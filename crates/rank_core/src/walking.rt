@@ -1,11 +1,14 @@
 //! A rank walks, and collects what it lacks.
-ghost use Rattle.std.specs.Prelude.{◌≡◌, ◌≤◌, ◌++◌, [], ℕ, ◌⊎◌, true, false, not, map, All, Contains, IsSome, OnOk, IfOk};
+ghost use Rattle.std.specs.Prelude.{◌≡◌, ◌≤◌, ◌++◌, [], ℕ, ◌⊎◌, true, false, not, map, All};
+ghost use Rattle.std.specs.Prelude.{Contains, IsSome, OnOk, IfOk};
 ghost use Rattle.hot_model.specs.World.{World};
 ghost use Rattle.defer_walk.specs.Asked.{asked_keys, Extends};
 ghost use Rattle.defer_walk.specs.Standing.{IsSameWalk, IsSameStage, given_of};
 ghost use Rattle.rank_core.specs.RankTree.{IsRankTree};
 ghost use Rattle.rank_core.specs.Part.{AreAllHeard, AreAsking, OnlyMerges};
-ghost use Rattle.rank_core.specs.Standing.{HoldsSomewhere, WhereHolds, StillHolds, WalkStands, WalkSomewhere, WhereWalk, WalkStill, HasWalked, IsWanted, Runs, meant_by};
+ghost use Rattle.rank_core.specs.Standing.{HoldsSomewhere, WhereHolds, StillHolds, WalkStands};
+ghost use Rattle.rank_core.specs.Standing.{WalkSomewhere, WhereWalk, WalkStill, HasWalked};
+ghost use Rattle.rank_core.specs.Standing.{IsWanted, Runs, meant_by};
 ghost use Rattle.rank_core.specs.Times.{times};
 
 use crate::rank_cells::RankCells;

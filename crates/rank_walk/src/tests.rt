@@ -1,24 +1,15 @@
-// Walks over ranks of random small worlds, beside the plain walk of one tree and counts by filters.
-ghost use Rattle.std.specs.Prelude.{◌<◌, ◌^◌};
-
-use crate::{Effort, Found, Sharing, walk_over_ranks};
+// Two bodies on two ranks, by hand: the root is a leaf that both ranks share, so each body opens it
+// and needs the branch of the other rank.
+use crate::{Effort, Found, Sharing, place_by_row, walk_over_ranks};
 use body_set::{BodySet, Ordered};
 use fixed_kernel::{Eps, ForceVisit, Ratio};
-use hot_model::{Acc3, Body, Cube, ForceEngine, Mail};
-use plain::{Plain, plain_of};
-use plain_engine::PlainEngine;
-use round_runner::{MemWire, OpenGate, Wire, drawn, next_state};
+use hot_model::{Acc3, Cube, Mail};
+use round_runner::{MemWire, OpenGate, Wire};
 use sdf_rows::RawRow;
 use std::alloc::Global;
 use std::process::Abort;
 use std::thread::Threads;
 
-mod plain;
-
-/// How many worlds are tried.
-const WORLDS: u32 = 300;
-
-/// The cube of the worlds.
 const CUBE: Cube = Cube {
     bits: 21,
     x0: 0,
@@ -26,164 +17,77 @@ const CUBE: Cube = Cube {
     z0: 0,
 };
 
-/// Draws of the generator, one after another.
-#[derive(Drop)]
-struct Draws {
-    state: u64,
-}
-
-impl Draws {
-    /// The next number of 21 bits.
-    fn next(&mut self) -> u32
-        ensures small { result < 2 ^ 21 }
-    {
-        let number = drawn(self.state);
-        self.state = next_state(self.state);
-        number
-    }
-}
-
-/// How a world is walked.
-#[derive(Clone, Copy)]
-struct Terms {
-    num: u32,
-    den: u32,
-    eps: u32,
-    ranks: u32,
-    leaf: u32,
-    mail: Mail,
-}
-
-/// A mail: each in its turn, and half of them by a seed.
-fn draw_mail(draws: &mut Draws) -> Mail {
-    match draws.next() % 6 {
-        0 => Mail::Prompt,
-        1 => Mail::Last,
-        2 => Mail::Single,
-        _ => Mail::Seeded(u64::from(draws.next())),
-    }
-}
-
-fn draw_terms(draws: &mut Draws) -> Terms {
-    let num = [0, 4, 7, 10, 20][(draws.next() % 5) as usize];
-    let eps = [1, 256, 1_000_000][(draws.next() % 3) as usize];
-    Terms {
-        num,
-        den: 10,
-        eps,
-        ranks: 1 + draws.next() % 8,
-        leaf: 1 + draws.next() % 5,
-        mail: draw_mail(draws),
-    }
-}
-
-/// A coordinate at or behind a base, less than `spread` from it.
-fn draw_at(draws: &mut Draws, base: u32, spread: u32) -> i128 {
-    let offset = draws.next().checked_rem(spread).unwrap_or(0);
-    i128::from(base.wrapping_add(offset) % 2_097_152)
-}
-
-/// A row: at one of eight places on the diagonal, near it or anywhere behind it, so often at the
-/// place of another; heavy, and with a weight that is often 0.
-fn draw_row(draws: &mut Draws, spread: u32) -> RawRow {
-    let base = 262_144 * (draws.next() % 8);
-    RawRow {
-        x: draw_at(draws, base, spread),
-        y: draw_at(draws, base, spread),
-        z: draw_at(draws, base, spread),
-        mass: i128::from(1 + 2 * draws.next()),
-        ident: 0,
-        work: i128::from(draws.next() % 4),
-        vx: None,
-        vy: None,
-        vz: None,
-    }
-}
-
-/// The bodies of a world, in key order.
-fn draw_set(rt: &impl Abort, alloc: Global, draws: &mut Draws) -> Ordered {
+/// The first row is a body of mass 3 at 4 0 0, the second one of mass 1 at 0 0 0.
+fn two_bodies(rt: &impl Abort, alloc: Global) -> Ordered {
     let mut set = BodySet::new(alloc, CUBE);
-    let spread = match draws.next() % 3 {
-        0 => 2,
-        1 => 16,
-        _ => 2_097_152,
-    };
-    for _body in 0..draws.next() % 11 {
-        let row = draw_row(draws, spread);
+    for (x, mass) in [(4, 3), (0, 1)] {
+        let row = RawRow {
+            x,
+            y: 0,
+            z: 0,
+            mass,
+            ident: x,
+            work: 1,
+            vx: None,
+            vy: None,
+            vz: None,
+        };
         set.push(&row).expect(rt, "a row in the cube");
     }
     set.order(alloc).expect(rt, "memory")
 }
 
-/// The forces on the bodies by the plain walk of one tree.
-fn plain_forces(rt: &impl Abort, alloc: Global, set: &Ordered, terms: Terms) -> Vec<Acc3> {
-    let engine = PlainEngine::new(terms.num, terms.den, terms.eps, terms.leaf);
-    let mut engine = engine.expect(rt, "numbers within their limits");
-    engine
-        .forces(alloc, &mut (), set.bodies())
-        .expect(rt, "memory")
-}
-
-fn same_forces(rt: &impl Abort, found: &[Acc3], wanted: &[Acc3]) {
-    assert_eq!(rt; found.len(), wanted.len());
-    for (one, other) in found.iter().zip(wanted.iter()) {
-        assert_eq!(rt; one.seen, other.seen);
-        assert_eq!(rt; one.ax, other.ax);
-        assert_eq!(rt; one.ay, other.ay);
-        assert_eq!(rt; one.az, other.az);
-    }
-}
-
-fn same_effort(rt: &impl Abort, effort: &Effort, plain: &Plain, rank: usize) {
-    assert_eq!(rt; effort.rank as usize, rank);
-    assert_eq!(rt; effort.bodies, plain.bodies_of(rank));
-    assert_eq!(rt; effort.opened, plain.opened_by_rank(rank));
-    assert_eq!(rt; effort.asks, plain.needed_by_rank(rt, rank));
-}
-
-/// What the ranks did is what the filters say.
-fn same_numbers(rt: &impl Abort, found: &Found<Acc3>, plain: &Plain, ranks: u32) {
-    assert_eq!(rt; found.efforts.len(), ranks as usize);
-    for (rank, effort) in found.efforts.iter().enumerate() {
-        same_effort(rt, effort, plain, rank);
-    }
-    for key in &found.opened {
-        assert!(rt; plain.opens(*key));
-    }
-    for key in plain.opened_keys() {
-        assert!(rt; found.opened.contains(key));
-    }
-}
-
-/// One world under one mail.
-fn walk_world<R: Threads + Sync + Abort>(rt: &R, alloc: Global, draws: &mut Draws) {
-    let terms = draw_terms(draws);
-    let set = draw_set(rt, alloc, draws);
-    let ratio = Ratio::new(terms.num, terms.den).expect(rt, "a ratio");
-    let visit = ForceVisit::new(ratio, Eps::new(terms.eps).expect(rt, "a softening"));
-    assert!(rt; 1 <= terms.ranks && terms.ranks <= 8 && 1 <= terms.leaf && terms.leaf <= 5);
+/// What two ranks find at ratio 0 and softening 1. Letters come promptly: branches, asks, answers,
+/// and a last round.
+fn found_by_two<R: Threads + Sync + Abort>(rt: &R, alloc: Global, set: &Ordered) -> Found<Acc3> {
+    let ratio = Ratio::new(0, 1).expect(rt, "a ratio");
+    let visit = ForceVisit::new(ratio, Eps::new(1).expect(rt, "a softening"));
     let sharing = Sharing {
-        ranks: terms.ranks,
-        leaf: terms.leaf,
-        mail: terms.mail,
+        ranks: 2,
+        leaf: 16,
+        mail: Mail::Prompt,
     };
     let mut wire = MemWire::new(alloc).expect(rt, "memory");
-    let found = walk_over_ranks(rt, alloc, &set, sharing, visit, &mut wire, &OpenGate);
-    let found = found.expect(rt, "memory");
-    let wanted = plain_forces(rt, alloc, &set, terms);
-    same_forces(rt, &found.accs, &wanted);
-    let plain = plain_of(rt, alloc, &set, sharing, visit);
-    same_numbers(rt, &found, &plain, terms.ranks);
+    let found = walk_over_ranks(rt, alloc, set, sharing, visit, &mut wire, &OpenGate);
     assert_eq!(rt; wire.pending(), 0);
-    assert_eq!(rt; wire.log().rounds(), found.rounds);
-    assert!(rt; found.rounds <= plain.bound(terms.ranks));
+    assert_eq!(rt; wire.log().rounds(), 4);
+    found.expect(rt, "memory")
+}
+
+fn is_one_of_two(rt: &impl Abort, effort: &Effort, rank: usize) {
+    assert_eq!(rt; effort.rank as usize, rank);
+    assert_eq!(rt; effort.bodies, 1);
+    assert_eq!(rt; effort.opened, 1);
+    assert_eq!(rt; effort.asks, 1);
+}
+
+/// The forces, each at the row of its body.
+fn by_row(rt: &impl Abort, alloc: Global, set: &Ordered, accs: Vec<Acc3>) -> Vec<Acc3> {
+    let bodies = set.bodies();
+    assert_eq!(rt; bodies.len(), accs.len());
+    place_by_row(alloc, bodies, accs).expect(rt, "memory")
 }
 
 #[test]
-fn small_worlds(rt: HostRuntime) {
+fn two_bodies_on_two_ranks(rt: HostRuntime) {
     let alloc = rt.alloc();
-    let mut draws = Draws { state: 17 };
-    for _world in 0..WORLDS {
-        walk_world(&rt, alloc, &mut draws);
+    let rt = &rt;
+    let set = two_bodies(rt, alloc);
+    let found = found_by_two(rt, alloc, &set);
+    assert_eq!(rt; found.accs.len(), 2);
+    assert_eq!(rt; found.accs[0].ax, 3145725);
+    assert_eq!(rt; found.accs[1].ax, -1048575);
+    assert_eq!(rt; found.efforts.len(), 2);
+    for (rank, effort) in found.efforts.iter().enumerate() {
+        is_one_of_two(rt, effort, rank);
     }
+    for key in &found.opened {
+        assert_eq!(rt; *key, 1);
+    }
+    assert!(rt; !found.opened.is_empty());
+    assert_eq!(rt; found.rounds, 4);
+    let placed = by_row(rt, alloc, &set, found.accs);
+    assert_eq!(rt; placed.len(), 2);
+    assert_eq!(rt; placed[0].ax, -1048575);
+    assert_eq!(rt; placed[1].ax, 3145725);
 }

@@ -12,6 +12,9 @@ use std::alloc::{AllocError, Global};
 use std::test::Fail;
 use std::thread::Threads;
 
+mod plain;
+mod worlds;
+
 const CUBE: Cube = Cube {
     bits: 21,
     x0: 0,

@@ -20,7 +20,7 @@ hand-requires-2-clause-mine g c κs within = c.requires.two.to_is ∙ sym (ap (�
 pub hand-requires-2-clause-fresh : goal.hand-requires-2-clause-fresh
 hand-requires-2-clause-fresh g c κs within =
     fresh_branches (seat_of c.hand.new.rank) c.args.two.from c.args.two.content c.requires.two.kind
-    (unheard_other (seat_of c.args.rank.now) (seat_of c.hand.new.rank) c.args.one c.args.two.from c.requires.unheard c.hand.ensures.seat c.requires.differ)
+    (unheard_other (seat_of c.args.rank.now) (seat_of c.hand.new.rank) c.args.one c.args.two.from (c.requires.unheard c.args.two.from) c.hand.ensures.seat c.requires.differ)
 
 pub returns : goal.returns
 returns g c = record { stands = c.hand-2.ensures.kept five (c.hand.ensures.kept five c.requires.stands c.requires.one.truth) c.requires.two.truth }

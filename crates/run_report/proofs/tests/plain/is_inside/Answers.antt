@@ -1,7 +1,7 @@
 use Rattle.std.proofs.Common.{ℕ, sym, subst}
 use Rattle.hot_model.specs.Keys.{IsCell}
 use Rattle.hot_model.proofs.Digits.{key_is_cell}
-use Rattle.rank_walk.proofs.tests.plain.is_inside.Goals as goal
+use Rattle.run_report.proofs.tests.plain.is_inside.Goals as goal
 
 -- the key of a body is a cell
 pub covers-requires-clause-key : goal.covers-requires-clause-key

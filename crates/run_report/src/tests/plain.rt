@@ -2,12 +2,12 @@
 ghost use Rattle.std.specs.Prelude.{◌≡◌};
 ghost use Rattle.hot_model.specs.Keys as keys;
 
-use super::super::Sharing;
 use body_set::Ordered;
 use fixed_kernel::ForceVisit;
 use hot_model::{Body, CellRec, Visit, covers};
 use moments::{add, empty, of_body};
 use morton_key::is_cell;
+use rank_walk::Sharing;
 use std::alloc::Global;
 use std::process::Abort;
 
@@ -280,17 +280,21 @@ impl Plain {
         sum
     }
 
-    /// How many rounds there are at most: the cells that count are those that are opened or
-    /// branches.
-    pub fn bound(&self, ranks: u32) -> u64 {
+    /// How many cells some body opens, or are branches.
+    pub fn met(&self) -> u64 {
         let mut met: u64 = 0;
         for cell in &self.cells {
             if self.opens(cell.rec.key) || self.is_branch(cell) {
                 met = met.saturating_add(1);
             }
         }
+        met
+    }
+
+    /// How many rounds there are at most.
+    pub fn bound(&self, ranks: u32) -> u64 {
         let ranks = u64::from(ranks);
-        let in_all = ranks.saturating_add(met.saturating_mul(2));
+        let in_all = ranks.saturating_add(self.met().saturating_mul(2));
         ranks
             .saturating_sub(1)
             .saturating_mul(in_all)

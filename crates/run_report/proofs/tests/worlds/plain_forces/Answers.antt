@@ -3,7 +3,7 @@ use Rattle.hot_model.specs.Limits.{max_all_mass}
 use Rattle.hot_model.specs.Values.{BodyValue}
 use Rattle.hot_model.specs.Trees.{mass_of}
 use Rattle.work_split.proofs.Cuts.{pieces_make_a_world}
-use Rattle.rank_walk.proofs.tests.plain_forces.Goals as goal
+use Rattle.run_report.proofs.tests.worlds.plain_forces.Goals as goal
 
 -- the bodies of a set have at most the largest mass of all
 pub forces-requires-clause-light : goal.forces-requires-clause-light
