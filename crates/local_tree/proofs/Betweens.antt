@@ -1,9 +1,9 @@
 -- The cells between the keys beside a piece.
-use Rattle.std.proofs.Common.{ℕ, ◌≡◌, ◌<◌, ◌≤◌, true, ltb, List, length, map, filter, sym, refl, ap, ◌∙◌, subst, inl, inr, arith, Option, Some, None}
-use Rattle.std.specs.Prelude.{Contains, IfSome, ◌↔◌}
+use Rattle.std.proofs.Common.{ℕ, ◌≡◌, ◌<◌, ◌≤◌, true, ltb, length, map, filter, refl, subst, inl, inr, arith, Option, Some, None}
+use Rattle.std.specs.Prelude.{Contains, IfSome}
 use Rattle.std.proofs.lemmas.Bool.{cases_lt, lt-ltb}
 use Rattle.hot_model.specs.Values.{BodyValue}
-use Rattle.hot_model.specs.Keys.{IsCell, key_of_body, covers, contains}
+use Rattle.hot_model.specs.Keys.{IsCell, key_of_body, contains}
 use Rattle.hot_model.specs.World.{World, IsGood, rank_of, bodies_in, left_of, right_of}
 use Rattle.hot_model.specs.Branches.{IsOfRank}
 use Rattle.hot_model.proofs.Members.{all_members, some_member, map_has, filter_has}

@@ -23,10 +23,6 @@ more-upto recs key m r o h at l k d p = omega (arith, o k m d (omega (arith, p))
 pub less-from : (recs : List CellValue) (key m : ℕ) (r : CellValue) → IsFalling recs → m < length recs → r ≡ get_or recs m r → r.key ≤ key → (k : ℕ) (d : CellValue) → m ≤ k → k < length recs → (get_or recs k d).key ≤ key
 less-from recs key m r o h at l k d p q = omega (arith, o m k d p q, here recs m r d h at, l)
 
--- where all keys are greater, none is the same
-pub none-past : (recs : List CellValue) (key low : ℕ) → ((k : ℕ) (d : CellValue) → k < low → key < (get_or recs k d).key) → low ≡ length recs → All (λ r. r.key ≢ key) recs
-none-past recs key low u e k d h same = omega (arith, u k d (omega (arith, e, h)), same)
-
 -- where the first key that is not greater is another, none is the same
 pub none-here : (recs : List CellValue) (key low : ℕ) (r : CellValue) → IsFalling recs → ((k : ℕ) (d : CellValue) → k < low → key < (get_or recs k d).key) → ((k : ℕ) (d : CellValue) → low ≤ k → k < length recs → (get_or recs k d).key ≤ key) → low < length recs → r ≡ get_or recs low r → r.key ≢ key → All (λ r. r.key ≢ key) recs
 none-here recs key low r o u v h at ne k d p same =
@@ -38,10 +34,6 @@ none-here recs key low r o u v h at ne k d p same =
           let down : key_in (get_or recs k d) ≤ key_in (get_or recs low d) = o low k d q p in
           ne (omega (arith, most, e, down, same))
     ]
-
--- a key that is smaller than that of the last record, by any default
-pub last-more : (recs : List CellValue) (key : ℕ) (r d : CellValue) → 0 < length recs → r ≡ get_or recs (length recs - 1) r → key < r.key → key < (get_or recs (length recs - 1) d).key
-last-more recs key r d h at l = omega (arith, here recs (length recs - 1) r d (omega (arith, h)) at, l)
 
 -- a record with a smaller key than the last goes behind it
 pub falling-push : (recs : List CellValue) (r : CellValue) → IsFalling recs → ((d : CellValue) → 0 < length recs → r.key < (get_or recs (length recs - 1) d).key) → IsFalling (recs ++ r ∷ [])

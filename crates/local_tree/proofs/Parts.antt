@@ -64,13 +64,7 @@ joins_by c k xs ys zs n s =
 joins_before : (c k : ℕ) (xs ys : List BodyValue) → joined (record_of c xs) (record_of k ys) ≡ record_of c (ys ++ xs)
 joins_before c k xs ys = joins_by c k xs ys (ys ++ xs) (omega (arith, length-append ys xs)) (λ f. omega (arith, sum_by-append f ys xs))
 
--- nothing yet
-pub part-none : (bodies : List BodyValue) (c : ℕ) (r : CellValue) → r ≡ record_of c [] → IsPart c (from_digit bodies c 8) r
-part-none bodies c r e =
-    let n : r.count ≡ 0 = ap (λ (v : CellValue). v.count) e in
-    let m : r.mass ≡ 0 = ap (λ (v : CellValue). v.mass) e in
-    record { key = ap (λ (v : CellValue). v.key) e; few = omega (arith, n); light = omega (arith, m); whole = λ z. e }
-
+-- one more child, whose bodies are left out
 part_skip : (c : ℕ) (xs ys : List BodyValue) (r : CellValue) → IsPart c xs r → IsPart c (ys ++ xs) r
 part_skip c xs [] r p = p
 part_skip c xs (y ∷ ys) r p = record {
@@ -85,6 +79,7 @@ pub part-skipped : (bodies : List BodyValue) (c d e : ℕ) (r : CellValue) → d
 part-skipped bodies c d e r h n p =
     rw (one_before bodies c d h) (part_skip c (from_digit bodies c (d + 1)) (inside bodies (child c d)) r (rw n at p))
 
+-- or added
 part_more : (c k : ℕ) (xs ys : List BodyValue) (r s t : CellValue) → IsPart c xs r → s ≡ record_of k ys → t ≡ joined r s → IsPart c (ys ++ xs) t
 part_more c k xs ys r s t p f g =
     let n : s.count ≡ length ys = ap (λ (v : CellValue). v.count) f in

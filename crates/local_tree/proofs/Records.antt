@@ -1,5 +1,5 @@
 -- The record of a cell over its range of bodies.
-use Rattle.std.proofs.Common.{ℕ, ◌≡◌, ◌<◌, ◌≤◌, ◌^◌, true, false, List, length, refl, sym, ap, ◌∙◌, Some, None, arith}
+use Rattle.std.proofs.Common.{ℕ, ◌≡◌, ◌<◌, ◌≤◌, false, List, length, refl, sym, ap, ◌∙◌, Some, arith}
 use Rattle.std.proofs.lemmas.Bool.{ne_eqb}
 use Rattle.hot_model.specs.Limits.{max_all_mass}
 use Rattle.hot_model.specs.Values.{BodyValue, CellValue}
@@ -29,7 +29,3 @@ pub some-record : (bodies : List BodyValue) (c : ℕ) (r : CellValue) → 0 < le
 some-record bodies c r h f =
     let some : is_empty (inside bodies c) ≡ false = ne_eqb _ _ (λ z. omega (arith, z, h)) in
     rw (some, f) refl
-
--- one without bodies has none
-pub none-record : (bodies : List BodyValue) (c : ℕ) → is_empty (inside bodies c) ≡ true → None ≡ record_at bodies c
-none-record bodies c e = rw e refl

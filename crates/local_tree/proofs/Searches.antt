@@ -1,5 +1,5 @@
 -- Binary search in a list in key order.
-use Rattle.std.proofs.Common.{ℕ, zero, suc, ◌≡◌, ◌+◌, ◌-◌, ◌<◌, ◌≤◌, true, false, cond, ltb, List, [], ◌∷◌, length, get_or, arith, refl, ap, subst, ◌∙◌, inl, inr}
+use Rattle.std.proofs.Common.{ℕ, zero, suc, ◌≡◌, ◌+◌, ◌<◌, ◌≤◌, true, false, cond, ltb, List, [], ◌∷◌, length, get_or, arith, refl, subst, ◌∙◌, inl, inr}
 use Rattle.std.proofs.lemmas.Bool.{cases_lt, lt-ltb, le-ltb}
 use Rattle.std.proofs.lemmas.List.Sums.{sum_by-cons}
 use Rattle.hot_model.specs.Values.{BodyValue}
@@ -66,13 +66,6 @@ count-rises j k (x ∷ xs) h = elim (cases_lt (key_of_body x) j) [
   | inl p ↦ omega (arith, counted j x xs p, counted k x xs (omega arith), count-rises j k xs h)
   | inr p ↦ omega (arith, passed j x xs p, one_more k x xs, count-rises j k xs h)
 ]
-
--- the bodies before a cell are counted by the key before its first
-pub first-counted : (xs : List BodyValue) (c first from : ℕ) → IsCell c → first ≡ first_key c → from ≡ count_below (first - 1 + 1) xs → from ≡ count_below (first_key c) xs
-first-counted xs c first from i e g =
-    let low = is_least c i in
-    let one : first - 1 + 1 ≡ first_key c = omega (arith, e, low.body.0) in
-    g ∙ ap (λ (k : ℕ). count_below k xs) one
 
 -- the first place of a cell's bodies is at most the second
 pub places-rise : (xs : List BodyValue) (c : ℕ) → IsCell c → count_below (first_key c) xs ≤ count_below (last_key c + 1) xs

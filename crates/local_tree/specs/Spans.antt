@@ -1,5 +1,5 @@
 -- Where the bodies of a cell stand, and the records made of them.
-use Rattle.std.specs.Prelude.{ℕ, ◌≡◌, ◌+◌, ◌<◌, List}
+use Rattle.std.specs.Prelude.{◌≡◌, ◌+◌, ◌<◌, List}
 use Rattle.hot_model.specs.Values.{BodyValue}
 use Rattle.hot_model.specs.Keys.{IsCell}
 use Rattle.morton_key.specs.Ranges.{count_below, first_key, last_key}

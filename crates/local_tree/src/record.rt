@@ -10,7 +10,7 @@ pub fn find(recs: &[CellRec], key: u64) -> Option<CellRec>
     requires order { IsFalling recs.now }
     ensures found { MatchOption result (All (λ r. r.key ≢ key) recs.now)
         (λ r. (r.key ≡ key)
-            × ((i : ℕ) × (i < length recs.now) × (r ≡ slice_index_or recs.now i r))) }
+        × ((i : ℕ) × (i < length recs.now) × (r ≡ slice_index_or recs.now i r))) }
 {
     let mut low = 0;
     let mut high = recs.len();

@@ -40,7 +40,11 @@ impl Model for LocalTree {
     ghost Value = { PieceValue };
 
     ghost view = { λ t. record {
-        bodies = t.bodies.items; left = t.left; right = t.right; leaf = t.leaf } };
+      bodies = t.bodies.items;
+      left = t.left;
+      right = t.right;
+      leaf = t.leaf;
+    } };
 
     ghost invariant = { λ t. IsLocal t.bodies.items t.recs.items t.left t.right };
 }
@@ -208,7 +212,7 @@ impl LocalTree {
         ensures value { IfOk result (λ _. list.new ≡ list.old ++ map
             (trees.cell_record self.now.bodies)
             (filter (homes.is_home_branch self.now.bodies self.now.left self.now.right)
-                (branches.cells_at self.now.bodies level))) }
+            (branches.cells_at self.now.bodies level))) }
     {
         let mut last = 0;
         for b in &self.bodies {
@@ -229,7 +233,7 @@ impl LocalTree {
         ensures value { IfOk result (λ _. list.new ≡ list.old ++ map
             (trees.cell_record self.now.bodies)
             (filter (homes.is_home_branch self.now.bodies self.now.left self.now.right)
-                (cond (eqb cell before) [] (cell ∷ [])))) }
+            (cond (eqb cell before) [] (cell ∷ [])))) }
     {
         if cell == before {
             return Ok(());

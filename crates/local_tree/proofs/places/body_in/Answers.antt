@@ -1,6 +1,6 @@
-use Rattle.std.proofs.Common.{◌≡◌, ◌+◌, ◌≤◌, length, sym, ap, ◌∙◌, Some, arith}
+use Rattle.std.proofs.Common.{◌≡◌, ◌+◌, sym, ap, ◌∙◌, Some, arith}
 use Rattle.hot_model.specs.Keys.{key_of_body}
-use Rattle.morton_key.specs.Ranges.{count_below, last_key}
+use Rattle.morton_key.specs.Ranges.{last_key}
 use Rattle.local_tree.proofs.Searches.{count-le, place-past}
 use Rattle.local_tree.proofs.Edges.{body-some, body-none}
 use Rattle.local_tree.proofs.places.body_in.Goals as goal

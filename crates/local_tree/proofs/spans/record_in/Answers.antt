@@ -1,7 +1,7 @@
 use Rattle.std.proofs.Common.{ℕ, ◌≡◌, Some, subst}
 use Rattle.hot_model.specs.Trees.{record_at}
 use Rattle.local_tree.proofs.Edges.{span-some}
-use Rattle.local_tree.proofs.Records.{some-record, none-record}
+use Rattle.local_tree.proofs.Records.{some-record}
 use Rattle.local_tree.proofs.spans.record_in.Goals as goal
 
 pub returns-in-Some : goal.returns-in-Some

@@ -1,4 +1,4 @@
-use Rattle.std.proofs.Common.{rules, ◌≡◌, ◌<◌, ◌≤◌, ◌-◌, ℕ, [], ◌∷◌, length, get_or, ap, arith, length-append}
+use Rattle.std.proofs.Common.{rules, ◌≡◌, ◌<◌, ◌≤◌, ◌-◌, [], ◌∷◌, length, get_or, ap, arith, length-append}
 use Rattle.std.specs.Prelude.{IsTrue}
 use Rattle.hot_model.specs.Values.{CellValue}
 use Rattle.local_tree.proofs.Edges.{span-some}
