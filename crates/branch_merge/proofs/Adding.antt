@@ -37,6 +37,7 @@ adds_few c xs i x r h l at e =
     let m : x.rec.count ≡ (get_or xs i x).rec.count = ap (λ (y : Listed). y.rec.count) at in
     omega (arith, n, m, sum_by_more_le (λ (y : Listed). y.rec.count) xs i x l, h.counted)
 
+-- the mass too
 pub adds_light : (c : ℕ) (xs : List Listed) (i : ℕ) (x : Listed) (r : CellValue) → AreLight xs → i < length xs → x ≡ get_or xs i x → r ≡ sums_of c (take i xs) → r.mass + x.rec.mass ≤ max_all_mass
 adds_light c xs i x r h l at e =
     let n : r.mass ≡ sum_by (λ (y : Listed). y.rec.mass) (take i xs) = ap (λ (q : CellValue). q.mass) e in
@@ -59,6 +60,7 @@ sum_part f p (x ∷ xs) = by_test (p x) (sum_part f p xs)
     by_test true h = omega (arith, h, sum_by-cons f x (filter p xs), sum_by-cons f x xs)
     by_test false h = omega (arith, h, sum_by-cons f x xs)
 
+-- so a part of light records is light
 pub light_part : (p : Listed → Bool) (xs : List Listed) → AreLight xs → AreLight (filter p xs)
 light_part p xs h = record {
   counted = omega (arith, sum_part (λ x. x.rec.count) p xs, h.counted);
@@ -80,6 +82,7 @@ sum_records f c (x ∷ xs) = by_test (covers c x.rec.key) (sum_records f c xs)
     by_test true h = sum_by-cons (λ (y : Listed). f y.rec) x (filter (λ y. covers c y.rec.key) xs) ∙ (ap (λ (n : ℕ). f x.rec + n) h ∙ sym (sum_by-cons f x.rec (filter (λ r. covers c r.key) (records xs))))
     by_test false h = h
 
+-- and so is the record that they make
 pub sums_joined : (c : ℕ) (xs : List Listed) → sums_of c (filter (λ x. covers c x.rec.key) xs) ≡ joined_record c (records xs)
 sums_joined c xs =
     same_cell _ _ refl (sum_records (λ r. r.count) c xs) (sum_records (λ r. r.mass) c xs)
@@ -94,6 +97,7 @@ some_kept p xs h =
     let k = has_filter p xs m.0 m.1 in
     has_any p xs m.0 k.0 k.1
 
+-- where it keeps none, no element passes
 pub none_kept : {X : Type 0} (p : X → Bool) (xs : List X) → length (filter p xs) ≡ 0 → list_any p xs ≡ false
 none_kept p xs e = by_test (list_any p xs) refl
   where
@@ -145,9 +149,11 @@ one_more_child p c d h =
     ∙ (ap (filter p) (map-append (child c) (take d digits) (d ∷ []))
     ∙ filter-append p (map (child c) (take d digits)) (child c d ∷ []))
 
+-- a filter keeps at most all
 pub filter_short : {X : Type 0} (p : X → Bool) (xs : List X) → length (filter p xs) ≤ length xs
 filter_short p xs = omega (arith, length-filter p xs, count_by-le-length p xs)
 
+-- how many stand in a range
 pub range_long : {X : Type 0} (from to : ℕ) (xs : List X) → from ≤ to → to ≤ length xs → length (slice_range xs from to) ≡ to - from
 range_long from to xs h k = simp (length-take, length-drop) (omega (arith, h, k))
 

@@ -23,6 +23,7 @@ apart_same xs a x y m n e =
     let same : m.0 ≡ n.0 = a m.0 n.0 x m.1 n.1 g in
     sym m.2 ∙ (ap (λ (i : ℕ). get_or xs i x) same ∙ at)
 
+-- the key of a listed record is a cell
 pub cell_in : (xs : List Listed) → AreCells xs → (x : Listed) → Contains xs x → IsCell x.rec.key
 cell_in xs cells x m = subst (λ (y : Listed). IsCell y.rec.key) m.2 (cells m.0 x m.1)
 
@@ -36,6 +37,7 @@ top_apart xs c cells a t x m e =
     let back : covers y.rec.key c ≡ true = subst (λ (z : Listed). covers z.rec.key c ≡ true) same e in
     t.1.2.1 (covers_back c y.rec.key t.0 q t.1.2.0 back)
 
+-- a cell above listed records lies in none of them
 pub top_outside : (xs : List Listed) (c : ℕ) → AreCells xs → AreApart xs → IsTopOf xs c → NoneAbove xs c
 top_outside xs c cells a t x m up = top_apart xs c cells a t x m up.0
 
@@ -46,6 +48,7 @@ top_below xs c cells a t =
     (λ x m. (let h = has_filter (λ (y : Listed). covers c y.rec.key) xs x m in
     (h.1, λ same. top_apart xs c cells a t x h.0 (subst (λ (n : ℕ). covers n c ≡ true) same (self_covers c t.0)))))
 
+-- a cell above listed records is not of the last level
 pub top_is_high : (xs : List Listed) (c : ℕ) → AreCells xs → IsTopOf xs c → level c < 21
 top_is_high xs c cells t = above_is_high c t.1.0.rec.key t.0 (cell_in xs cells t.1.0 t.1.1) t.1.2
 

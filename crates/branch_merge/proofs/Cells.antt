@@ -13,6 +13,7 @@ use Rattle.morton_key.proofs.Numbers.{is_least, is_greatest, child_has}
 use Rattle.morton_key.proofs.KeyLaws.{range_of_a_cell}
 use Rattle.branch_merge.specs.Merged.{IsProper}
 
+-- a cell covers itself
 pub self_covers : (c : ℕ) → IsCell c → covers c c ≡ true
 self_covers c i = covers-self c i.0 i.1 i.2
 

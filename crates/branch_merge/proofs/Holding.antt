@@ -51,6 +51,7 @@ held_by xs key to x s a i f h at y m e =
       | inr c ↦ sym (apart_same xs a x y mx m c.0)
     ]
 
+-- the last record that does not begin behind a cell holds it, where it covers it
 pub holder_is : (xs : List Listed) (key to : ℕ) (x : Listed) → AreSorted xs → AreApart xs → IsCell key → IsCountTo xs (first_key key) to → 1 ≤ to → x ≡ get_or xs (to - 1) x → covers x.rec.key key ≡ true → IsHolder xs key x
 holder_is xs key to x s a i f h at e = record {
   listed = (to - 1, omega (arith, h, f.within), sym at);
@@ -58,6 +59,7 @@ holder_is xs key to x s a i f h at e = record {
   only = held_by xs key to x s a i f h at;
 }
 
+-- and else none does
 pub holder_none : (xs : List Listed) (key to : ℕ) (x : Listed) → AreSorted xs → AreApart xs → IsCell key → IsCountTo xs (first_key key) to → 1 ≤ to → x ≡ get_or xs (to - 1) x → covers x.rec.key key ≡ false → All (λ y. covers y.rec.key key ≡ false) xs
 holder_none xs key to x s a i f h at e k d l =
     refuted (covers (get_or xs k d).rec.key key)
@@ -96,6 +98,7 @@ made_more xs keys old new n top e f t g i d h =
 pub key_at : (xs : List Listed) (cells : List TopCell) (h : AreTopCells xs cells) (i : ℕ) (d : TopCell) → i < length h.keys → key_of_top (get_or cells i d) ≡ get_or h.keys i 0
 key_at xs cells h i d l = ap (λ r. r.key) (h.each i d l).rec
 
+-- the keys of the top cells ascend
 pub keys_ascend : (xs : List Listed) (cells : List TopCell) → AreTopCells xs cells → IsNonDecreasingBy key_of_top cells
 keys_ascend xs cells h i j d le l =
     let lj : j < length h.keys = omega (arith, l, h.size) in
@@ -121,6 +124,7 @@ found_top xs cells key cell h e m =
 nowhere : TopCell
 nowhere = record { rec = record { key = 0; count = 0; mass = 0; sx = 0; sy = 0; sz = 0; sxx = 0; syy = 0; szz = 0; sxy = 0; sxz = 0; syz = 0 }; children = record { items = [] } }
 
+-- a key that no top cell has is none of theirs
 pub no_top : (xs : List Listed) (cells : List TopCell) (key : ℕ) → AreTopCells xs cells → All (λ c. key_of_top c ≡ key → ⊥) cells → IsTopOf xs key → ⊥
 no_top xs cells key h none t =
     let m = (h.tops.all key).1 t in

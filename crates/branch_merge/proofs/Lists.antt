@@ -71,6 +71,7 @@ above_less : (j k : ℕ) (xs : List ℕ) → j < k → AllAbove k xs → AllAbov
 above_less j k [] h a = tt
 above_less j k (x ∷ xs) h a = (omega (arith, h, a.0), above_less j k xs h a.1)
 
+-- a list that rises strictly ascends
 pub strict_ascends : (xs : List ℕ) → IsStrictlyIncreasing xs → Ascends xs
 strict_ascends [] h = tt
 strict_ascends (x ∷ []) h = (tt, tt)

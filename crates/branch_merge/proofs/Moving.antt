@@ -47,6 +47,7 @@ apart_swap xs a b p q n h i j d li lj e =
     let g : covers (get_or xs s.0 d).rec.key (get_or xs t.0 d).rec.key ≡ true = subst (λ (x : Listed). covers (get_or xs s.0 d).rec.key x.rec.key ≡ true) t.3 f in
     same_source a b i j s.0 t.0 s.2 t.2 (h s.0 t.0 d s.1 t.1 g)
 
+-- records stay apart in any order
 pub apart_moved : (xs ys : List Listed) → IsPermutation xs ys → AreApart xs → AreApart ys
 apart_moved xs ys p h = IsPermutation-keeps xs AreApart h (λ l i j li lj a. apart_swap l i j li lj (length-swap l i j) a) ys p
 

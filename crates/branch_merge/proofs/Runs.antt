@@ -16,9 +16,11 @@ use Rattle.branch_merge.proofs.Cells.{covered_range, in_range, first_below_last}
 here : {X : Type 0} (n : X → ℕ) (xs : List X) (m : ℕ) (x d : X) → m < length xs → x ≡ get_or xs m x → n (get_or xs m d) ≡ n x
 here n xs m x d h at = ap n (get_or_default xs m d x h ∙ sym at)
 
+-- up to an element with a smaller key all keys are smaller
 pub less_upto : {X : Type 0} (n : X → ℕ) (xs : List X) (key m : ℕ) (x : X) → IsNonDecreasingBy n xs → m < length xs → x ≡ get_or xs m x → n x < key → (k : ℕ) (d : X) → k < m + 1 → n (get_or xs k d) < key
 less_upto n xs key m x o h at l k d p = omega (arith, o k m d (omega (arith, p)) h, here n xs m x d h at, l)
 
+-- from one with no smaller key on none is smaller
 pub more_from : {X : Type 0} (n : X → ℕ) (xs : List X) (key m : ℕ) (x : X) → IsNonDecreasingBy n xs → m < length xs → x ≡ get_or xs m x → key ≤ n x → (k : ℕ) (d : X) → m ≤ k → k < length xs → key ≤ n (get_or xs k d)
 more_from n xs key m x o h at l k d p q = omega (arith, o m k d p q, here n xs m x d h at, l)
 
@@ -34,9 +36,11 @@ none_here n xs key low x o u v h at ne k d p same =
           ne (omega (arith, least, e, up, same))
     ]
 
+-- the same by the first keys of listed records
 pub under_upto : (xs : List Listed) (key m : ℕ) (x : Listed) → AreInOrder xs → m < length xs → x ≡ get_or xs m x → first_of x ≤ key → (k : ℕ) (d : Listed) → k < m + 1 → first_of (get_or xs k d) ≤ key
 under_upto xs key m x o h at l k d p = let r = less_upto first_of xs (key + 1) m x o h at (omega (arith, l)) k d p in omega (arith, r)
 
+-- and from one that begins behind the key on
 pub over_from : (xs : List Listed) (key m : ℕ) (x : Listed) → AreInOrder xs → m < length xs → x ≡ get_or xs m x → key < first_of x → (k : ℕ) (d : Listed) → m ≤ k → k < length xs → key < first_of (get_or xs k d)
 over_from xs key m x o h at l k d p q = let r = more_from first_of xs (key + 1) m x o h at (omega (arith, l)) k d p q in omega (arith, r)
 
@@ -55,6 +59,7 @@ filter_front p (x ∷ xs) (suc n) w pass out =
     let rest = filter_front p xs n (omega (arith, w)) (λ k d h. pass (suc k) d (omega (arith, h))) (λ k d h l. out (suc k) d (omega (arith, h)) (omega (arith, l))) in
     rw t (ap (λ ys. x ∷ ys) rest)
 
+-- a filter that passes a run alone gives the run
 pub filter_run : {X : Type 0} (p : X → Bool) (xs : List X) (lo hi : ℕ) → lo ≤ hi → hi ≤ length xs → ((k : ℕ) (d : X) → k < lo → p (get_or xs k d) ≡ false) → ((k : ℕ) (d : X) → lo ≤ k → k < hi → p (get_or xs k d) ≡ true) → ((k : ℕ) (d : X) → hi ≤ k → k < length xs → p (get_or xs k d) ≡ false) → filter p xs ≡ slice_range xs lo hi
 filter_run p xs zero hi u w low pass high =
     let e : hi - 0 ≡ hi = omega arith in
@@ -66,6 +71,7 @@ filter_run p (x ∷ xs) (suc lo) (suc hi) u w low pass high =
     let e : suc hi - suc lo ≡ hi - lo = omega arith in
     rw (t, e) (filter_run p xs lo hi (omega (arith, u)) (omega (arith, w)) (λ k d h. low (suc k) d (omega (arith, h))) (λ k d h l. pass (suc k) d (omega (arith, h)) (omega (arith, l))) (λ k d h l. high (suc k) d (omega (arith, h)) (omega (arith, l))))
 
+-- a test that cannot be true is false
 pub refuted : (b : Bool) → (b ≡ true → ⊥) → b ≡ false
 refuted true n = absurd (n refl)
 refuted false n = refl
@@ -89,6 +95,7 @@ run_ascends xs c from to i f t =
       | inr more ↦ more
     ]
 
+-- the records in a cell stand between two places
 pub run_is : (xs : List Listed) (c from to : ℕ) → AreSorted xs → IsCell c → NoneAbove xs c → IsCountTo xs (first_key c - 1) from → IsCountTo xs (last_key c) to → IsRun xs c from to
 run_is xs c from to s i none f t =
     let up = run_ascends xs c from to i f t in

@@ -27,6 +27,7 @@ pub record Climbs (old keys : List ℕ) (cell below : ℕ) : Type 0 where
   pub gained : (c : ℕ) → Contains keys c → Contains old c ⊎ IsProper c cell
   pub every : (c : ℕ) → IsProper c cell → IsProper c below ⊎ Contains keys c
 
+-- the way up begins at the cell
 pub climbs_start : (keys : List ℕ) (cell : ℕ) → IsCell cell → Climbs keys keys cell cell
 climbs_start keys cell i = record {
   cell_below = i;
@@ -60,6 +61,7 @@ climbs_more old keys new cell below above i h p e l n =
       ];
     }
 
+-- at the root all cells above are there
 pub climbs_end : (old keys : List ℕ) (cell below : ℕ) → Climbs old keys cell below → below ≡ 1 → Gains old keys cell
 climbs_end old keys cell below h e = record {
   kept = h.kept;
@@ -89,6 +91,7 @@ pub record HasTops (xs : List Listed) (keys : List ℕ) : Type 0 where
   pub into : (c : ℕ) → Contains keys c → IsTopOf xs c
   pub from : (c : ℕ) → IsTopOf xs c → Contains keys c
 
+-- one more listed record
 pub tops_more : (xs : List Listed) (i : ℕ) (x : Listed) (old new : List ℕ) → i < length xs → x ≡ get_or xs i x → HasTops (take i xs) old → Gains old new x.rec.key → HasTops (take (i + 1) xs) new
 tops_more xs i x old new l at h g =
     let e : take (i + 1) xs ≡ take i xs ++ x ∷ [] = take_more xs i x l ∙ ap (λ (y : Listed). take i xs ++ y ∷ []) (sym at) in

@@ -20,6 +20,7 @@ abbrev pub last_or : ℕ → List ℕ → ℕ
 last_or d [] = d
 last_or d (x ∷ xs) = last_or x xs
 
+-- the last of a list with one more is that one
 pub last-push : (d y : ℕ) (xs : List ℕ) → last_or d (xs ++ y ∷ []) ≡ y
 last-push d y [] = refl
 last-push d y (x ∷ xs) = last-push x y xs
@@ -36,6 +37,7 @@ from_push : (k y : ℕ) (xs : List ℕ) → dedup_from eqb k (xs ++ y ∷ []) �
 from_push k y [] = elim (eqb y k) as (λ (t : Bool). cond t (k ∷ []) (k ∷ (y ∷ [])) ≡ (k ∷ []) ++ cond t [] (y ∷ [])) [ true ↦ refl | false ↦ refl ]
 from_push k y (x ∷ xs) = push_by k y x xs (eqb x k) refl (from_push k y xs) (from_push x y xs)
 
+-- one more number counts where it is not the same as the last
 pub dedup-push : (y : ℕ) (xs : List ℕ) → 0 < y → dedup eqb (xs ++ y ∷ []) ≡ dedup eqb xs ++ unless_same y (last_or 0 xs)
 dedup-push y [] h = let t : eqb y 0 ≡ false = ne_eqb _ _ (λ e. omega (arith, e, h)) in rw t refl
 dedup-push y (x ∷ xs) h = from_push x y xs
@@ -44,6 +46,7 @@ dedup-push y (x ∷ xs) h = from_push x y xs
 abbrev pub front_of : ℕ → BodyValue → ℕ
 front_of l b = front l (key_of_body b)
 
+-- the cell of a level that has a body is a cell
 pub front-cell : (l : ℕ) (b : BodyValue) → l ≤ 21 → IsCell (front_of l b)
 front-cell l b h = (l, h, front_level l b h)
 
@@ -53,9 +56,11 @@ has_body c xs i b h at e =
     let m : Contains xs b = subst (Contains xs) (sym at) (Contains-get_or xs i b h) in
     has_length (inside xs c) b (inside_has xs c b m e)
 
+-- that of a body of the list has bodies
 pub front-some : (l : ℕ) (xs : List BodyValue) (i : ℕ) (b : BodyValue) → l ≤ 21 → i < length xs → b ≡ get_or xs i b → 0 < length (inside xs (front_of l b))
 front-some l xs i b h k at = has_body (front_of l b) xs i b k at (own_front l b h)
 
+-- and so has the cell above it
 pub above-some : (l : ℕ) (xs : List BodyValue) (i : ℕ) (b : BodyValue) → l ≤ 21 → i < length xs → b ≡ get_or xs i b → (front_of l b ≡ 1 → ⊥) → 0 < length (inside xs (parent (front_of l b)))
 above-some l xs i b h k at n =
     let u = below_root (front_of l b) (front-cell l b h) n in
@@ -77,6 +82,7 @@ level-more r p l xs i before b start old new h k at e f g =
     ∙ (append_assoc start (map r (filter p (dedup eqb ys))) (map r (filter p (unless_same y before)))
     ∙ ap (λ (zs : List CellValue). start ++ zs) (sym kept)))
 
+-- the cell of the last body
 pub last-more : (l : ℕ) (xs : List BodyValue) (i : ℕ) (b : BodyValue) → i < length xs → b ≡ get_or xs i b → front_of l b ≡ last_or 0 (map (front_of l) (take (i + 1) xs))
 last-more l xs i b k at =
     let ys : List ℕ = map (front_of l) (take i xs) in
@@ -88,6 +94,7 @@ pub levels-none : (r : ℕ → CellValue) (p : ℕ → Bool) (xs : List BodyValu
 unfolding cells_above
 levels-none r p xs list e = e
 
+-- one level more
 pub levels-more : (r : ℕ → CellValue) (p : ℕ → Bool) (xs : List BodyValue) (l : ℕ) (old new : List CellValue) → old ≡ map r (filter p (cells_above xs l)) → new ≡ old ++ map r (filter p (cells_at xs l)) → new ≡ map r (filter p (cells_above xs (l + 1)))
 unfolding cells_above
 levels-more r p xs l old new e f =

@@ -20,6 +20,7 @@ not_before a b h k =
           rw e (elim (eqb (key_of_body b) (key_of_body a)) as (λ (v : Bool). (v && false) ≡ false) [ true ↦ refl | false ↦ refl ])
     ])
 
+-- a body that is not before the last goes behind it
 pub order-push : (xs : List BodyValue) (a b : BodyValue) (i : ℕ) → i + 1 ≡ length xs → a ≡ get_or xs i a → before b a ≡ false → IsInOrder xs → IsInOrder (xs ++ b ∷ [])
 order-push xs a b i last at h o k d low up =
     elim (cases_lt (k + 1) (length xs)) [
@@ -35,5 +36,6 @@ order-push xs a b i last at h o k d low up =
           rw (e, f) h
     ]
 
+-- and adds its mass
 pub mass-push : (xs : List BodyValue) (b : BodyValue) → mass_of (xs ++ b ∷ []) ≡ mass_of xs + b.mass
 mass-push xs b = sum_by_push mass_of_body xs b

@@ -1,8 +1,11 @@
 pub mod Searches
 pub mod Running
+pub mod Edges
+pub mod Parts
 pub mod Records
 pub mod Kids
-pub mod Table
+pub mod Falling
 pub mod Fronts
 pub mod Growing
+pub mod Betweens
 pub mod Hints

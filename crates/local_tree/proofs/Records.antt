@@ -1,11 +1,10 @@
 -- The record of a cell over its range of bodies.
-use Rattle.std.proofs.Common.{ℕ, ◌≡◌, ◌<◌, ◌≤◌, ◌^◌, false, eqb, List, length, refl, sym, ap, ◌∙◌, Some, arith}
-use Rattle.std.specs.Prelude.{slice_range}
+use Rattle.std.proofs.Common.{ℕ, ◌≡◌, ◌<◌, ◌≤◌, false, List, length, refl, sym, ap, ◌∙◌, Some, arith}
 use Rattle.std.proofs.lemmas.Bool.{ne_eqb}
 use Rattle.hot_model.specs.Limits.{max_all_mass}
 use Rattle.hot_model.specs.Values.{BodyValue, CellValue}
 use Rattle.hot_model.specs.Keys.{IsCell, contains, level}
-use Rattle.hot_model.specs.Trees.{mass_of, mass_of_body, record_of, cell_record, record_at, inside}
+use Rattle.hot_model.specs.Trees.{mass_of, mass_of_body, record_of, cell_record, record_at, inside, is_empty}
 use Rattle.hot_model.proofs.Digits.{level-le, level-has}
 use Rattle.hot_model.proofs.Fronts.{covers-self}
 use Rattle.hot_model.proofs.Within.{inside-within}
@@ -21,9 +20,12 @@ range-light bodies own c i e h =
     let a : inside own c ≡ inside bodies c = ap (λ (xs : List BodyValue). inside xs c) (sym e) ∙ inside-own bodies c i in
     rw a (omega (arith, h, sum_filter_le mass_of_body (contains c) bodies))
 
-pub some-record : (bodies own : List BodyValue) (c : ℕ) (r : CellValue) → IsCell c → inside bodies c ≡ own → 0 < length own → r ≡ cell_record own c → Some r ≡ record_at bodies c
-some-record bodies own c r i e h f =
-    let some : eqb (length own) 0 ≡ false = ne_eqb _ _ (λ z. omega (arith, z, h)) in
-    let a : inside own c ≡ own = ap (λ (xs : List BodyValue). inside xs c) (sym e) ∙ (inside-own bodies c i ∙ e) in
-    let b : cell_record own c ≡ record_of c own = ap (record_of c) a in
-    rw (e, some, f, b) refl
+-- the record over it is that over all bodies
+pub range-record : (bodies own : List BodyValue) (c : ℕ) → IsCell c → inside bodies c ≡ own → cell_record own c ≡ cell_record bodies c
+range-record bodies own c i e = ap (record_of c) (ap (λ (xs : List BodyValue). inside xs c) (sym e) ∙ inside-own bodies c i)
+
+-- a cell with bodies has its record
+pub some-record : (bodies : List BodyValue) (c : ℕ) (r : CellValue) → 0 < length (inside bodies c) → r ≡ cell_record bodies c → Some r ≡ record_at bodies c
+some-record bodies c r h f =
+    let some : is_empty (inside bodies c) ≡ false = ne_eqb _ _ (λ z. omega (arith, z, h)) in
+    rw (some, f) refl

@@ -1,5 +1,5 @@
 -- Binary search in a list in key order.
-use Rattle.std.proofs.Common.{ℕ, zero, suc, ◌≡◌, ◌+◌, ◌-◌, ◌<◌, ◌≤◌, true, false, cond, ltb, List, [], ◌∷◌, length, get_or, arith, refl, ap, subst, ◌∙◌, inl, inr}
+use Rattle.std.proofs.Common.{ℕ, zero, suc, ◌≡◌, ◌+◌, ◌<◌, ◌≤◌, true, false, cond, ltb, List, [], ◌∷◌, length, get_or, arith, refl, subst, ◌∙◌, inl, inr}
 use Rattle.std.proofs.lemmas.Bool.{cases_lt, lt-ltb, le-ltb}
 use Rattle.std.proofs.lemmas.List.Sums.{sum_by-cons}
 use Rattle.hot_model.specs.Values.{BodyValue}
@@ -23,6 +23,7 @@ none_below : (k j : ℕ) (xs : List BodyValue) → k ≤ j → NoneBelow j xs �
 none_below k j [] h n = omega arith
 none_below k j (x ∷ xs) h n = passed k x xs (omega (arith, n.0, h)) ∙ none_below k j xs h n.1
 
+-- at most all bodies are counted
 pub count-le : (k : ℕ) (xs : List BodyValue) → count_below k xs ≤ length xs
 count-le k [] = omega arith
 count-le k (x ∷ xs) = elim (cases_lt (key_of_body x) k) [
@@ -58,6 +59,7 @@ place-low k m xs b o h at l = at_low k m xs b (rising_in_order xs o) h (subst (�
 pub place-high : (k m : ℕ) (xs : List BodyValue) (b : BodyValue) → IsInOrder xs → m < length xs → b ≡ get_or xs m b → k ≤ key_of_body b → count_below k xs ≤ m
 place-high k m xs b o h at l = at_high k m xs b (rising_in_order xs o) h (subst (λ (z : BodyValue). k ≤ key_of_body z) at l)
 
+-- below a greater key at least as many are counted
 pub count-rises : (j k : ℕ) (xs : List BodyValue) → j ≤ k → count_below j xs ≤ count_below k xs
 count-rises j k [] h = omega arith
 count-rises j k (x ∷ xs) h = elim (cases_lt (key_of_body x) j) [
@@ -65,12 +67,16 @@ count-rises j k (x ∷ xs) h = elim (cases_lt (key_of_body x) j) [
   | inr p ↦ omega (arith, passed j x xs p, one_more k x xs, count-rises j k xs h)
 ]
 
--- the two places of a cell's bodies
-pub from-to : (xs : List BodyValue) (c first last from to : ℕ) → IsCell c → first ≡ first_key c → last ≡ last_key c → from ≡ count_below (first - 1 + 1) xs → to ≡ count_below (last + 1) xs → (from ≡ count_below (first_key c) xs) × (to ≡ count_below (last_key c + 1) xs) × (from ≤ to)
-from-to xs c first last from to i e f g h =
-    let low = is_least c i in
-    let high : first_key c ≤ last_key c = low.least (last_key c) (is_greatest c i).body (is_greatest c i).within in
-    let one : first - 1 + 1 ≡ first_key c = omega (arith, e, low.body.0) in
-    let a : from ≡ count_below (first_key c) xs = g ∙ ap (λ (k : ℕ). count_below k xs) one in
-    let b : to ≡ count_below (last_key c + 1) xs = h ∙ ap (λ (k : ℕ). count_below (k + 1) xs) f in
-    (a, b, omega (arith, a, b, count-rises (first_key c) (last_key c + 1) xs (omega (arith, high))))
+-- the first place of a cell's bodies is at most the second
+pub places-rise : (xs : List BodyValue) (c : ℕ) → IsCell c → count_below (first_key c) xs ≤ count_below (last_key c + 1) xs
+places-rise xs c i =
+    let high : first_key c ≤ last_key c = (is_least c i).least (last_key c) (is_greatest c i).body (is_greatest c i).within in
+    count-rises (first_key c) (last_key c + 1) xs (omega (arith, high))
+
+-- a body with at most the last key of a cell stands before the second place
+pub place-within : (xs : List BodyValue) (c at : ℕ) (b : BodyValue) → IsInOrder xs → at < length xs → b ≡ get_or xs at b → key_of_body b ≤ last_key c → at + 1 ≤ count_below (last_key c + 1) xs
+place-within xs c at b o h e l = place-low (last_key c + 1) at xs b o h e (omega (arith, l))
+
+-- a body with a greater key does not
+pub place-past : (xs : List BodyValue) (c at : ℕ) (b : BodyValue) → IsInOrder xs → at < length xs → b ≡ get_or xs at b → last_key c < key_of_body b → count_below (last_key c + 1) xs ≤ at
+place-past xs c at b o h e l = place-high (last_key c + 1) at xs b o h e (omega (arith, l))

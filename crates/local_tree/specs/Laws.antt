@@ -10,10 +10,15 @@ use Rattle.hot_model.specs.World.{World, IsGood, piece, left_of, right_of, bodie
 use Rattle.hot_model.specs.Branches.{IsOfRank, IsBranch, cells, branches, branch_records}
 use Rattle.hot_model.specs.Answers.{answer_at, true_answer}
 use Rattle.hot_model.specs.Homes.{is_home, home_branches}
+use Rattle.local_tree.specs.Pieces.{IsBetween}
 
 -- a cell is a rank's own by its piece exactly where it has bodies and all of them are of the rank
 abbrev pub HomesAreOwn : Type 0
 HomesAreOwn = (w : World) (q c : ℕ) → IsGood w → IsCell c → (is_home (piece w q) (left_of w q) (right_of w q) c ≡ true) ↔ ((0 < length (bodies_in w c)) × IsOfRank w q c)
+
+-- of a cell with bodies the keys are between those beside a piece exactly where all its bodies are of the rank
+abbrev pub OwnCellsAreBetween : Type 0
+OwnCellsAreBetween = (w : World) (q c : ℕ) → IsGood w → IsCell c → 0 < length (bodies_in w c) → IsBetween (left_of w q) (right_of w q) c ↔ IsOfRank w q c
 
 -- what a piece has of a cell whose bodies are all of the rank is what there is of it
 pub record IsWhole (w : World) (q c : ℕ) : Type 0 where

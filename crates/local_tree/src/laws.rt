@@ -6,6 +6,12 @@ pub fn homes_are_own()
     ensures law { laws.HomesAreOwn }
 {}
 
+/// A cell that has bodies is a piece's own exactly where all its body keys are between the two
+/// neighbouring keys.
+pub fn own_cells_are_between()
+    ensures law { laws.OwnCellsAreBetween }
+{}
+
 /// Of a cell whose bodies are all in one piece, the piece gives the bodies, the record and the
 /// answer that the tree over all bodies gives.
 pub fn own_cells_are_whole()

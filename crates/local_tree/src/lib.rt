@@ -8,11 +8,14 @@ mod places;
 mod record;
 #[cfg(test)]
 mod samples;
+mod spans;
+mod table;
 #[cfg(test)]
 mod tests;
 mod tree;
 
 pub use laws::{
-    branches_are_listed, cells_are_listed, homes_are_own, homes_give_branches, own_cells_are_whole,
+    branches_are_listed, cells_are_listed, homes_are_own, homes_give_branches,
+    own_cells_are_between, own_cells_are_whole,
 };
 pub use tree::LocalTree;

@@ -1,4 +1,4 @@
-ghost use Rattle.std.specs.Prelude.{◌≡◌, ◌+◌, ◌<◌, ◌≤◌, ◌^◌, length, slice_range};
+ghost use Rattle.std.specs.Prelude.{◌≡◌, ◌+◌, ◌<◌, ◌≤◌, length, slice_get, slice_range};
 ghost use Rattle.hot_model.specs.Limits.{max_level};
 ghost use Rattle.hot_model.specs.Keys.{IsCell};
 ghost use Rattle.hot_model.specs.Keys as keys;
@@ -11,14 +11,18 @@ use hot_model::Body;
 use hot_model::limits::MAX_LEVEL;
 use morton_key::{first_key, last_key};
 
-/// How many bodies of a list in key order have at most this key: a binary search.
+/// How many bodies of a list in key order have at most this key, which are from the lower to the
+/// upper bound: a binary search.
 #[tactic(auto, using(crate::proofs::Hints::on_search))]
-fn count_to(bodies: &[Body], key: u64) -> usize
+pub fn count_within(bodies: &[Body], key: u64, lower: usize, upper: usize) -> usize
     requires order { IsInOrder bodies.now }
+    requires lower { lower ≤ ranges.count_below (key + 1) bodies.now }
+    requires upper { ranges.count_below (key + 1) bodies.now ≤ upper }
+    requires within { upper ≤ length bodies.now }
     ensures value { result ≡ ranges.count_below (key + 1) bodies.now }
 {
-    let mut low = 0;
-    let mut high = bodies.len();
+    let mut low = lower;
+    let mut high = upper;
     while low < high {
         let middle = low + (high - low) / 2;
         let b = &bodies[middle];
@@ -31,18 +35,48 @@ fn count_to(bodies: &[Body], key: u64) -> usize
     low
 }
 
+/// How many bodies of a list in key order stand before those of a cell.
+pub fn start_of(bodies: &[Body], cell: u64) -> usize
+    requires order { IsInOrder bodies.now }
+    requires cell { IsCell cell }
+    ensures value { result ≡ ranges.count_below (ranges.first_key cell) bodies.now }
+{
+    count_within(bodies, first_key(cell) - 1, 0, bodies.len())
+}
+
 /// The places from and to (exclusive) of the bodies of a cell in a list in key order.
 #[tactic(auto, using(crate::proofs::Hints::on_places))]
 pub fn places(bodies: &[Body], cell: u64) -> (usize, usize)
     requires order { IsInOrder bodies.now }
     requires cell { IsCell cell }
+    ensures low { result.0 ≡ ranges.count_below (ranges.first_key cell) bodies.now }
+    ensures high { result.1 ≡ ranges.count_below (ranges.last_key cell + 1) bodies.now }
     ensures inside { trees.inside bodies.now cell ≡ slice_range bodies.now result.0 result.1 }
     ensures ascending { result.0 ≤ result.1 }
     ensures within { result.1 ≤ length bodies.now }
 {
-    let from = count_to(bodies, first_key(cell) - 1);
-    let to = count_to(bodies, last_key(cell));
+    let from = start_of(bodies, cell);
+    let to = count_within(bodies, last_key(cell), from, bodies.len());
     (from, to)
+}
+
+/// The body at a place among those of a cell in a list in key order; None exactly past the last. A
+/// binary search.
+pub fn body_in(bodies: &[Body], cell: u64, i: u32) -> Option<Body>
+    requires order { IsInOrder bodies.now }
+    requires cell { IsCell cell }
+    ensures value { result ≡ slice_get (trees.inside bodies.now cell) i }
+{
+    let at = start_of(bodies, cell) + i as usize;
+    if at >= bodies.len() {
+        return None;
+    }
+    let b = &bodies[at];
+    if b.key <= last_key(cell) {
+        Some(*b)
+    } else {
+        None
+    }
 }
 
 /// The cell of a level that has the body with this key: the key without the digits behind.

@@ -23,7 +23,8 @@ fn push_behind(bodies: &mut Vec<Body>, b: Body) -> Result<(), AllocError>
     requires order { IsInOrder bodies.old.items }
     requires light { mass_of bodies.old.items ≤ length bodies.old.items * max_body_mass }
     ensures order { IfOk result (λ _. IsInOrder bodies.new.items) }
-    ensures light { IfOk result (λ _. mass_of bodies.new.items ≤ length bodies.new.items * max_body_mass) }
+    ensures light { IfOk result (λ _. mass_of bodies.new.items
+        ≤ length bodies.new.items * max_body_mass) }
     ensures few { IfOk result (λ _. length bodies.new.items ≤ length bodies.old.items + 1) }
 {
     if is_behind(bodies, &b) {

@@ -72,6 +72,11 @@ fn home_is(rt: &impl Abort, tree: &LocalTree, key: u64, want: bool) {
     assert_eq!(rt; tree.is_home(key), want, "home {key}");
 }
 
+fn between_is(rt: &impl Abort, tree: &LocalTree, key: u64, want: bool) {
+    assert!(rt; is_cell(key));
+    assert_eq!(rt; tree.is_between(key), want, "between {key}");
+}
+
 /// The answer for an own cell is bodies of these masses, or these records of children.
 fn answer_is(rt: &impl Abort, tree: &LocalTree, key: u64, masses: &[u32], children: &[Numbers]) {
     assert!(rt; is_cell(key));
@@ -110,11 +115,14 @@ fn two_bodies_alone(rt: HostRuntime) {
     answer_is(&rt, &fine, 1, &[], &[(8, 2, 4, 3072, 0, 0)]);
     let beside = tree_of(rt.alloc(), &rows, None, Some(FIRST + 257), 8).expect(&rt, "memory");
     home_is(&rt, &beside, 1, false);
+    between_is(&rt, &tree, 1, true);
+    between_is(&rt, &beside, 1, false);
     let half = 268_435_456;
     let far = [[0, 0, 0, 1], [half, 0, 0, 3]];
     let apart = tree_of(rt.alloc(), &far, None, None, 1).expect(&rt, "memory");
     let children = [(8, 1, 1, 0, 0, 0), (12, 1, 3, 805_306_368, 0, 0)];
     answer_is(&rt, &apart, 1, &[], &children);
+    rec_is(&rt, &apart, 1, Some((1, 2, 4, 805_306_368, 0, 0)));
 }
 
 #[test]
@@ -128,6 +136,17 @@ fn neighbours_under_the_parents(rt: HostRuntime) {
     home_is(&rt, &tree, FIRST / 8, false);
     home_is(&rt, &tree, FIRST / 8 + 1, false);
     home_is(&rt, &tree, FIRST + 1, true);
+    for (key, want) in [
+        (FIRST, false),
+        (FIRST + 1, true),
+        (FIRST + 7, true),
+        (FIRST + 14, true),
+        (FIRST + 15, false),
+        (FIRST / 8, false),
+        (15, false),
+    ] {
+        between_is(&rt, &tree, key, want);
+    }
     answer_is(&rt, &tree, FIRST + 14, &[5], &[]);
     let open = tree_of(rt.alloc(), &rows, Some(FIRST), None, 1).expect(&rt, "memory");
     branches_are(

@@ -1,4 +1,4 @@
-ghost use Rattle.std.specs.Prelude.{◌≡◌, ◌<◌, ◌≤◌, ◌^◌, ℕ, true, cond, eqb, [], ◌∷◌, ◌++◌, length, map, filter, slice_get, IfOk, IfSome};
+ghost use Rattle.std.specs.Prelude.{◌≡◌, ◌<◌, ◌≤◌, ◌^◌, ℕ, true, cond, eqb, [], ◌∷◌, ◌++◌, length, map, filter, slice_get, IsTrue, ◌↔◌, IfOk, IfSome};
 ghost use Rattle.hot_model.specs.Limits.{max_all_mass, max_level};
 ghost use Rattle.hot_model.specs.Keys.{IsCell};
 ghost use Rattle.hot_model.specs.Keys as keys;
@@ -7,15 +7,18 @@ ghost use Rattle.hot_model.specs.Order.{IsInOrder};
 ghost use Rattle.hot_model.specs.Branches as branches;
 ghost use Rattle.hot_model.specs.Homes as homes;
 ghost use Rattle.hot_model.specs.Answers as answers;
+ghost use Rattle.morton_key.specs.Ranges as ranges;
 ghost use Rattle.morton_key.specs.Ranges.{IsBodyKey};
+ghost use Rattle.local_tree.specs.Pieces.{IsBetween};
 
 use crate::list::{listed, push_some};
-use crate::places::{child_of, front, places};
-use crate::record::{find, is_greater};
+use crate::places::{body_in, child_of, front, places};
+use crate::record::find;
+use crate::spans::record_in;
+use crate::table::table_of;
 use hot_model::limits::MAX_LEVEL;
 use hot_model::{Answer, Body, CellRec, RecList, covers, level};
-use moments::of_inside;
-use morton_key::parent;
+use morton_key::{first_key, last_key, parent};
 use std::alloc::{AllocError, Global};
 use std::marker::Model;
 
@@ -36,16 +39,15 @@ impl Model for LocalTree {
 
     ghost Value = { PieceValue };
 
-    ghost view = { λ t. record { bodies = t.bodies.items; left = t.left; right = t.right; leaf = t.leaf } };
+    ghost view = { λ t. record {
+      bodies = t.bodies.items;
+      left = t.left;
+      right = t.right;
+      leaf = t.leaf;
+    } };
 
     ghost invariant = { λ t. IsLocal t.bodies.items t.recs.items t.left t.right };
 }
-
-/// At most so many records a body stand in the table.
-const RECORDS: usize = 2;
-
-// a body and its records
-const _: () = prove!(size_of::<Body>() + RECORDS * size_of::<CellRec>() <= 400);
 
 /// Whether a cell does not contain a neighbouring key, if there is one.
 fn keeps_out(cell: u64, neighbour: Option<u64>) -> bool
@@ -55,6 +57,28 @@ fn keeps_out(cell: u64, neighbour: Option<u64>) -> bool
 {
     match neighbour {
         Some(key) => !covers(cell, key),
+        None => true,
+    }
+}
+
+/// Whether all body keys of a cell are greater than a neighbouring key, if there is one.
+fn is_above(cell: u64, neighbour: Option<u64>) -> bool
+    requires cell { IsCell cell }
+    ensures value { IsTrue result ↔ IfSome neighbour (λ k. k < ranges.first_key cell) }
+{
+    match neighbour {
+        Some(key) => key < first_key(cell),
+        None => true,
+    }
+}
+
+/// Whether all body keys of a cell are smaller than a neighbouring key, if there is one.
+fn is_below(cell: u64, neighbour: Option<u64>) -> bool
+    requires cell { IsCell cell }
+    ensures value { IsTrue result ↔ IfSome neighbour (λ k. ranges.last_key cell < k) }
+{
+    match neighbour {
+        Some(key) => last_key(cell) < key,
         None => true,
     }
 }
@@ -76,97 +100,33 @@ impl LocalTree {
         requires right { IfSome right IsBodyKey }
         requires few { length piece.now < 2 ^ 32 }
         requires light { trees.mass_of piece.now ≤ max_all_mass }
-        ensures value { IfOk result (λ t. t ≡ record { bodies = piece.now; left = left; right = right; leaf = leaf }) }
+        ensures value { IfOk result (λ t.
+            t ≡ record { bodies = piece.now; left = left; right = right; leaf = leaf }) }
     {
         let bodies = Vec::from_slice(alloc, piece)?;
-        let recs = Vec::with_capacity(alloc, RECORDS * piece.len())?;
-        let mut tree = LocalTree {
+        let recs = table_of(alloc, &bodies, leaf)?;
+        Ok(LocalTree {
             bodies,
             recs,
             left,
             right,
             leaf,
             alloc,
-        };
-        tree.fill()?;
-        Ok(tree)
-    }
-
-    /// Puts into the table the records of the cells of more bodies than the leaf limit and of their
-    /// children, level by level and each level by ascending key, up to two records a body.
-    fn fill(&mut self) -> Result<(), AllocError>
-        ensures kept { self.new ≡ self.old }
-    {
-        self.keep(1)?;
-        for k in 0..RECORDS * self.bodies.len() {
-            if k >= self.recs.len() {
-                return Ok(());
-            }
-            let rec = self.recs[k];
-            if rec.count > self.leaf && level(rec.key) < MAX_LEVEL {
-                self.keep_children(rec.key)?;
-            }
-        }
-        Ok(())
-    }
-
-    /// Puts the records of a cell's children into the table.
-    fn keep_children(&mut self, key: u64) -> Result<(), AllocError>
-        requires cell { IsCell key }
-        requires upper { keys.level key < max_level }
-        ensures kept { self.new ≡ self.old }
-    {
-        for digit in 0..8u64 {
-            self.keep(child_of(key, digit))?;
-        }
-        Ok(())
-    }
-
-    /// Puts the record of a cell with bodies into the table, behind records of smaller keys, while
-    /// there is room.
-    fn keep(&mut self, key: u64) -> Result<(), AllocError>
-        requires cell { IsCell key }
-        ensures kept { self.new ≡ self.old }
-    {
-        if self.recs.len() >= RECORDS * self.bodies.len() {
-            return Ok(());
-        }
-        if !is_greater(&self.recs, key) {
-            return Ok(());
-        }
-        match self.summed(key) {
-            Some(rec) => {
-                self.recs.push(rec)?;
-                Ok(())
-            }
-            None => Ok(()),
-        }
-    }
-
-    /// The record of a cell, added up from its bodies.
-    fn summed(&self, key: u64) -> Option<CellRec>
-        requires cell { IsCell key }
-        ensures value { result ≡ trees.record_at self.now.bodies key }
-    {
-        let (from, to) = places(&self.bodies, key);
-        if from == to {
-            return None;
-        }
-        Some(of_inside(key, &self.bodies[from..to]))
+        })
     }
 
     /// The record of a cell over the bodies of the piece: their count and mass, and the sums of
     /// mass times coordinate. None exactly where the piece has no body there. A cell in the table
-    /// (those that a walk meets, up to two records a body) is found by one binary search; of any
+    /// (those that a walk meets, up to 19 for ten bodies) is found by one binary search; of any
     /// other the bodies are found by two more and added up. It takes no memory.
     pub fn rec(&self, key: u64) -> Option<CellRec>
         requires cell { IsCell key }
         ensures value { result ≡ trees.record_at self.now.bodies key }
     {
-        match find(&self.recs, key) {
-            Some(rec) => Some(rec),
-            None => self.summed(key),
+        if let Some(rec) = find(&self.recs, key) {
+            return Some(rec);
         }
+        record_in(&self.bodies, key)
     }
 
     /// Whether a cell is the piece's own: it has a body of the piece, and contains neither
@@ -182,15 +142,22 @@ impl LocalTree {
         keeps_out(key, self.left) && keeps_out(key, self.right)
     }
 
+    /// Whether the body keys of a cell are all between the two neighbouring keys. Of a cell that
+    /// has bodies it tells whether they are all of the piece. It takes no memory.
+    pub fn is_between(&self, key: u64) -> bool
+        requires cell { IsCell key }
+        ensures value { IsTrue result ↔ IsBetween self.now.left self.now.right key }
+    {
+        is_above(key, self.left) && is_below(key, self.right)
+    }
+
     /// The body of the piece at a place, counted from 0, among those in a cell, in order; None
-    /// exactly past the last. It takes no memory.
+    /// exactly past the last. One binary search. It takes no memory.
     pub fn body(&self, key: u64, i: u32) -> Option<Body>
         requires cell { IsCell key }
         ensures value { result ≡ slice_get (trees.inside self.now.bodies key) i }
     {
-        let (from, to) = places(&self.bodies, key);
-        let own = &self.bodies[from..to];
-        own.get(i as usize).copied()
+        body_in(&self.bodies, key, i)
     }
 
     /// What the piece answers for one of its own cells: the bodies, in order, where there are at
@@ -228,7 +195,8 @@ impl LocalTree {
     /// 1993), by ascending key, so level by level. One pass over the bodies a level. A refusal is
     /// want of memory.
     pub fn branches(&self) -> Result<RecList, AllocError>
-        ensures value { IfOk result (λ l. l ≡ homes.home_branches self.now.bodies self.now.left self.now.right) }
+        ensures value { IfOk result (λ l.
+            l ≡ homes.home_branches self.now.bodies self.now.left self.now.right) }
     {
         let mut list = RecList::new(self.alloc);
         for level in 0..=MAX_LEVEL {
@@ -241,7 +209,10 @@ impl LocalTree {
     /// where it is a new one.
     fn add_level(&self, list: &mut RecList, level: u32) -> Result<(), AllocError>
         requires level { level ≤ max_level }
-        ensures value { IfOk result (λ _. list.new ≡ list.old ++ map (trees.cell_record self.now.bodies) (filter (homes.is_home_branch self.now.bodies self.now.left self.now.right) (branches.cells_at self.now.bodies level))) }
+        ensures value { IfOk result (λ _. list.new ≡ list.old ++ map
+            (trees.cell_record self.now.bodies)
+            (filter (homes.is_home_branch self.now.bodies self.now.left self.now.right)
+            (branches.cells_at self.now.bodies level))) }
     {
         let mut last = 0;
         for b in &self.bodies {
@@ -257,8 +228,12 @@ impl LocalTree {
     fn add_branch(&self, list: &mut RecList, cell: u64, before: u64) -> Result<(), AllocError>
         requires cell { IsCell cell }
         requires some { 0 < length (trees.inside self.now.bodies cell) }
-        requires above { (cell ≡ 1 → ⊥) → 0 < length (trees.inside self.now.bodies (branches.parent cell)) }
-        ensures value { IfOk result (λ _. list.new ≡ list.old ++ map (trees.cell_record self.now.bodies) (filter (homes.is_home_branch self.now.bodies self.now.left self.now.right) (cond (eqb cell before) [] (cell ∷ [])))) }
+        requires above { (cell ≡ 1 → ⊥)
+            → 0 < length (trees.inside self.now.bodies (branches.parent cell)) }
+        ensures value { IfOk result (λ _. list.new ≡ list.old ++ map
+            (trees.cell_record self.now.bodies)
+            (filter (homes.is_home_branch self.now.bodies self.now.left self.now.right)
+            (cond (eqb cell before) [] (cell ∷ [])))) }
     {
         if cell == before {
             return Ok(());
@@ -273,8 +248,10 @@ impl LocalTree {
     fn is_branch(&self, cell: u64) -> bool
         requires cell { IsCell cell }
         requires some { 0 < length (trees.inside self.now.bodies cell) }
-        requires above { (cell ≡ 1 → ⊥) → 0 < length (trees.inside self.now.bodies (branches.parent cell)) }
-        ensures value { result ≡ homes.is_home_branch self.now.bodies self.now.left self.now.right cell }
+        requires above { (cell ≡ 1 → ⊥)
+            → 0 < length (trees.inside self.now.bodies (branches.parent cell)) }
+        ensures value { result
+            ≡ homes.is_home_branch self.now.bodies self.now.left self.now.right cell }
     {
         if !self.is_own(cell) {
             return false;

@@ -10,6 +10,7 @@ use Rattle.hot_model.proofs.Digits.{level-le, level-has}
 use Rattle.hot_model.proofs.Fronts.{covers-self}
 use Rattle.hot_model.specs.Trees.{inside, mass_of, mass_of_body, record_of, cell_record}
 
+-- one more body of the cell: the count stays small
 pub few-more : (c : ℕ) (xs : List BodyValue) (i : ℕ) (b : BodyValue) (r s : CellValue) → length xs < 2 ^ 32 → i < length xs → r ≡ cell_record (take i xs) c → s ≡ record_of c (b ∷ []) → r.count + s.count < 2 ^ 32
 few-more c xs i b r s h l e f =
     let m : r.count ≡ length (filter (contains c) (take i xs)) = ap (λ (v : CellValue). v.count) e in
@@ -26,6 +27,7 @@ sum-front f p n xs =
     let h : sum_by f (filter p xs) ≡ sum_by f (filter p (take n xs)) + sum_by f (filter p (drop n xs)) = ap (sum_by f) (sym e ∙ g) ∙ sum_by-append f (filter p (take n xs)) (filter p (drop n xs)) in
     omega (arith, h)
 
+-- and the mass
 pub light-more : (c : ℕ) (xs : List BodyValue) (i : ℕ) (b : BodyValue) (r s : CellValue) → mass_of (inside xs c) ≤ max_all_mass → i < length xs → b ≡ get_or xs i b → contains c b ≡ true → r ≡ cell_record (take i xs) c → s ≡ record_of c (b ∷ []) → r.mass + s.mass ≤ max_all_mass
 light-more c xs i b r s h l at t e f =
     let m : r.mass ≡ mass_of (inside (take i xs) c) = ap (λ (v : CellValue). v.mass) e in

@@ -22,6 +22,7 @@ joined_lists c d xs ys n s =
     (s (λ b. b.mass * b.x * b.x)) (s (λ b. b.mass * b.y * b.y)) (s (λ b. b.mass * b.z * b.z))
     (s (λ b. b.mass * b.x * b.y)) (s (λ b. b.mass * b.x * b.z)) (s (λ b. b.mass * b.y * b.z))
 
+-- this holds of every two lists
 pub records_join : RecordsJoin
 records_join c d xs ys = joined_lists c d xs ys (sym (length-append xs ys)) (λ f. sym (sum_by-append f xs ys))
 
@@ -42,6 +43,7 @@ body-facts c b i s e =
     alone : (P : BodyValue → Type 0) (b : BodyValue) → P b → All P (b ∷ [])
     alone P b p = All-cons P b [] p (λ k d m. absurd (omega (arith, m)))
 
+-- the record of no body
 pub none-facts : (c : ℕ) → IsCell c → IsCellRecord (record_of c [])
 none-facts c i =
     list-facts c [] i (none IsBody) (omega arith) (none (λ o. IsWithin (corner c).x (extent c) o.x)) (none (λ o. IsWithin (corner c).y (extent c) o.y)) (none (λ o. IsWithin (corner c).z (extent c) o.z))
@@ -56,14 +58,18 @@ one-facts c b n m x y z e f g h k i s t =
     same_cell _ _ refl refl (omega arith) (omega arith) (omega arith) (omega arith) (omega arith) (omega arith) (omega arith) (omega arith) (omega arith) (omega arith) in
     rw (e, f, g, h, k) (subst (λ (v : CellValue). IsCellRecord v) r (body-facts c b i s t))
 
+-- two sums of this size fit their type together
 pub fits-two : (a b : ℕ) → a ≤ 2 ^ 98 → b ≤ 2 ^ 98 → Fits w128 (a + b)
 fits-two a b h k = record { fits = omega arith }
 
+-- a sum for x is of this size
 pub sx-small : (c : CellValue) → IsCellRecord c → c.sx ≤ 2 ^ 98
 sx-small c f = omega (arith, sx-in-cube c f, f.light)
 
+-- one for y
 pub sy-small : (c : CellValue) → IsCellRecord c → c.sy ≤ 2 ^ 98
 sy-small c f = omega (arith, sy-in-cube c f, f.light)
 
+-- one for z
 pub sz-small : (c : CellValue) → IsCellRecord c → c.sz ≤ 2 ^ 98
 sz-small c f = omega (arith, sz-in-cube c f, f.light)

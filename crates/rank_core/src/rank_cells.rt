@@ -5,6 +5,7 @@ ghost use Rattle.hot_model.specs.Keys as keys;
 ghost use Rattle.hot_model.specs.World.{World, record_in, bodies_in};
 ghost use Rattle.hot_model.specs.Needs.{part_of};
 ghost use Rattle.branch_merge.specs.Tops as tops;
+ghost use Rattle.local_tree.specs.Pieces.{IsBetween};
 ghost use Rattle.rank_core.specs.RankTree.{IsRankTree, IsShared};
 
 use branch_merge::Top;
@@ -53,7 +54,7 @@ impl<'a> RankCells<'a> {
     /// What a cell of the rank alone is.
     fn own_part(&self, key: u64) -> Part
         requires cell { IsCell key }
-        requires mine { tops.IsOwnerIn self.now.top.now self.now.me key }
+        requires between { IsBetween self.now.tree.now.left self.now.tree.now.right key }
         ensures value { (w : World) (q : ℕ)
             → IsRankTree w q self.now.me self.now.leaf self.now.tree.now self.now.top.now
             → 0 < length (bodies_in w key) → result ≡ part_of w q key }
@@ -99,18 +100,22 @@ impl<'a> Cells for RankCells<'a> {
     }
 
     fn part(&self, key: u64) -> Part {
+        // a cell with bodies is of this rank alone exactly where it is between
+        if self.tree.is_between(key) {
+            return self.own_part(key);
+        }
         match self.top.owner(key) {
-            Some(owner) if owner != self.me => Part::Away(owner),
-            Some(_) => self.own_part(key),
+            Some(owner) => Part::Away(owner),
             None => self.top_part(key),
         }
     }
 
     fn child(&self, key: u64, digit: u32) -> Option<CellRec> {
         let below = child(key, digit)?;
-        match self.top.owner(key) {
-            Some(_) => self.tree.rec(below),
-            None => self.shared(below),
+        if self.tree.is_between(key) {
+            self.tree.rec(below)
+        } else {
+            self.shared(below)
         }
     }
 

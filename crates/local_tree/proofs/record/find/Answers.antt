@@ -1,5 +1,5 @@
 use Rattle.std.proofs.Common.{◌≡◌, ◌+◌, ◌-◌, ◌/◌, ◌<◌, length, sym, ap, ◌∙◌, arith}
-use Rattle.local_tree.proofs.Table.{key_in, less-upto, more-from, none-here}
+use Rattle.local_tree.proofs.Falling.{key_in, more-upto, less-from, none-here}
 use Rattle.local_tree.proofs.record.find.Goals as goal
 
 pub loop-low-preserved-then-rec-key : goal.loop-low-preserved-then-rec-key
@@ -9,7 +9,7 @@ loop-low-preserved-then-rec-key c =
     let key : key_in r ≡ c.rec.inside.key = sym (ap key_in c.rec.view_is) in
     let within : middle < length c.args.recs.now = omega arith in
     record {
-      under = less-upto c.args.recs.now c.args.key middle r c.requires.order within c.index-recs-middle.is (omega (arith, key, c.if-rec-key.true));
+      under = more-upto c.args.recs.now c.args.key middle r c.requires.order within c.index-recs-middle.is (omega (arith, key, c.if-rec-key.true));
       over = c.loop-low.invariant.over;
       ends = omega arith;
       within = c.loop-low.invariant.within;
@@ -23,7 +23,7 @@ loop-low-preserved c =
     let within : middle < length c.args.recs.now = omega arith in
     record {
       under = c.loop-low.invariant.under;
-      over = more-from c.args.recs.now c.args.key middle r c.requires.order within c.index-recs-middle.is (omega (arith, key, c.if-rec-key.false));
+      over = less-from c.args.recs.now c.args.key middle r c.requires.order within c.index-recs-middle.is (omega (arith, key, c.if-rec-key.false));
       ends = omega arith;
       within = omega arith;
     }

@@ -4,8 +4,8 @@ use Rattle.local_tree.proofs.record.find.Given as goal
 
 abbrev pub invariant-loop-low : goal.invariant-loop-low
 invariant-loop-low l = record {
-  under : (k : ℕ) (d : CellValue) → k < l.low → (get_or l.recs k d).key < l.key;
-  over : (k : ℕ) (d : CellValue) → l.high ≤ k → k < length l.recs → l.key ≤ (get_or l.recs k d).key;
+  under : (k : ℕ) (d : CellValue) → k < l.low → l.key < (get_or l.recs k d).key;
+  over : (k : ℕ) (d : CellValue) → l.high ≤ k → k < length l.recs → (get_or l.recs k d).key ≤ l.key;
   ends : l.low ≤ l.high;
   within : l.high ≤ length l.recs;
 }

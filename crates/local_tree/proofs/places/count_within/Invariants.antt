@@ -1,6 +1,6 @@
 use Rattle.std.proofs.Common.{◌+◌, ◌-◌, ◌≤◌, length}
 use Rattle.morton_key.specs.Ranges.{count_below}
-use Rattle.local_tree.proofs.places.count_to.Given as goal
+use Rattle.local_tree.proofs.places.count_within.Given as goal
 
 abbrev pub invariant-loop-low : goal.invariant-loop-low
 invariant-loop-low l = record {

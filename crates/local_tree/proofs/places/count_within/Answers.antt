@@ -1,7 +1,7 @@
 use Rattle.std.proofs.Common.{◌≡◌, ◌+◌, ◌-◌, ◌/◌, ◌<◌, ◌≤◌, length, sym, ap, ◌∙◌, arith}
 use Rattle.hot_model.specs.Keys.{key_of_body}
 use Rattle.local_tree.proofs.Searches.{place-low, place-high}
-use Rattle.local_tree.proofs.places.count_to.Goals as goal
+use Rattle.local_tree.proofs.places.count_within.Goals as goal
 
 pub loop-low-preserved-then-b-key : goal.loop-low-preserved-then-b-key
 loop-low-preserved-then-b-key c =
