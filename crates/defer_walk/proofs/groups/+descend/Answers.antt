@@ -10,7 +10,7 @@ use Rattle.defer_walk.specs.Settling.{IsParted}
 use Rattle.defer_walk.specs.Grouping.{group, by_children, all_listed, AreOpened}
 use Rattle.defer_walk.specs.Standing.{VisitOf, meaning, pairs_in, AreStored}
 use Rattle.defer_walk.specs.Turning.{Runs}
-use Rattle.defer_walk.proofs.Slots.{extends_trans}
+use Rattle.defer_walk.proofs.Slots.{extends_trans, extends_same}
 use Rattle.defer_walk.proofs.Settles.{pair_full}
 use Rattle.defer_walk.proofs.Descents.{records_to, group_pair, group_keeps, runs_sifted, runs_same, comes_below, children_last, children_none, children_done, child_lower, parted_here, slice_back}
 use Rattle.defer_walk.proofs.groups.+descend.Goals.{in-Some-child+in_ok-descend, in_default-child, in-Some+else-loop-back-test, in_default}
@@ -286,3 +286,18 @@ returns-clause-runs g t c = λ w me start keep stands good own comes r.
           runs_same v w me start c.args.piece.now c.settle.new.accs c.match-more.accs c.settle.new.tally c.match-more.tally c.settle.new.asks c.match-more.asks keep keep (pairs_in w (all_listed c.settle.new.held.items)) (pairs_in w (all_listed c.match-more.held.items))
           m.accs-is m.tally-is m.asks-is refl (ap (λ h. pairs_in w (all_listed h.items)) m.held-is) (c.in_ok-more.ensures.done (ap is_some m.in_default.is) w me start keep stands good own comes there)
     ]
+
+pub returns-in_err-first-clause-stored : goal.returns-in_err-first-clause-stored
+returns-in_err-first-clause-stored g t c = λ w me start keep stands good own comes r. r.keeps.store
+
+pub returns-in_err-first-clause-extends : goal.returns-in_err-first-clause-extends
+returns-in_err-first-clause-extends g t c = extends_same c.args.asks.now
+
+pub returns-then-first-len-clause-stored : goal.returns-then-first-len-clause-stored
+returns-then-first-len-clause-stored g t c = λ w me start keep stands good own comes r. r.keeps.store
+
+pub returns-then-first-len-clause-extends : goal.returns-then-first-len-clause-extends
+returns-then-first-len-clause-extends g t c = extends_same c.args.asks.now
+
+pub returns-in_err-more-clause-extends : goal.returns-in_err-more-clause-extends
+returns-in_err-more-clause-extends g t c = c.in_err-more.ensures.extends
