@@ -1,7 +1,7 @@
 -- The table of answers beside the order in which cells were asked for.
 use Rattle.std.proofs.Common.{lit<, ◌≡◌, ℕ, zero, suc, ◌<◌, Bool, true, false, List, [], ◌∷◌, ◌++◌, length, refl, ap, sym, ◌∙◌, subst, arith, Some, None, Option, inl, inr, get_or, eqb, Bor}
 use Rattle.std.specs.Option.{is_some, option_copied, option_flatten}
-use Rattle.std.specs.Prelude.{slice_get, All, Contains, IsSome, OnOk, is_ok, if◌then◌else◌, ◌↔◌}
+use Rattle.std.specs.Prelude.{slice_get, Contains, IsSome, OnOk, is_ok, if◌then◌else◌, ◌↔◌}
 use Rattle.std.specs.declared.result.Result.{Result}
 use Rattle.std.specs.declared.result.Result.TheVariants.{Ok, Err}
 use Rattle.std.specs.Ordering.{nat_cmp}
@@ -236,3 +236,9 @@ module _ (m : Answers) where
               | inl q ↦ ((λ g. subst (Contains (ask_keys order)) q ((is.keys key).0 h)), (λ g. ap is_some (ap (table.get (table.insert m key (Some answer))) (sym q) ∙ got_same key (Some answer))))
               | inr n ↦ ((λ g. (is.keys k).0 (ap is_some (sym (got_other key (Some answer) k n)) ∙ g)), (λ g. ap is_some (got_other key (Some answer) k n) ∙ (is.keys k).1 g))
             ]
+
+-- a key that was just asked for is among the keys
+pub asked_last : (m : Answers) (order xs : List Ask) (a : Ask) → xs ≡ order ++ a ∷ [] → Contains (asked_keys (slots_in m xs)) a.key
+asked_last m order xs a e =
+    subst (λ (ks : List ℕ). Contains ks a.key) (sym (keys_in m xs))
+    (subst (λ (ys : List Ask). Contains (ask_keys ys) a.key) (sym e) (ask_has (order ++ a ∷ []) (length order) a (get_end order a)))

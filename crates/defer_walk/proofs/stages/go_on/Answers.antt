@@ -97,7 +97,7 @@ returns-clause-runs g c = always_ok c.count_held-2.result _ (λ w me start stand
     ])
 
 pub begin-requires-clause-fits : goal.begin-requires-clause-fits
-begin-requires-clause-fits g c κs within = 
+begin-requires-clause-fits g c κs within =
     let v : VisitOf g.row.V-Acc.Denot = meaning g.V.Visit.zero_of g.V.Visit.adds g.V.Visit.opens_by g.V.Acc.Seen.seen_of c.args.visit.now in
     let q = c.requires.fits in
     let w = q.0 in
@@ -124,6 +124,6 @@ returns-in_err-begin-clause-extends g c = c.in_err-begin.ensures.extends
 
 pub returns-clause-extends : goal.returns-clause-extends
 returns-clause-extends g c = elim c.match-root.branch [
-      | in-Some+in_ok-begin m ↦ subst (Extends c.args.asks.now) (sym m.asks-is) m.in_ok-begin.ensures.extends
-      | in_default m ↦ subst (Extends c.args.asks.now) (sym m.asks-is) (extends_same c.args.asks.now)
-    ]
+  | in-Some+in_ok-begin m ↦ subst (Extends c.args.asks.now) (sym m.asks-is) m.in_ok-begin.ensures.extends
+  | in_default m ↦ subst (Extends c.args.asks.now) (sym m.asks-is) (extends_same c.args.asks.now)
+]

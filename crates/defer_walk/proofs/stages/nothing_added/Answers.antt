@@ -1,11 +1,11 @@
-use Rattle.std.proofs.Common.{◌≡◌, ◌∷◌, [], ◌++◌, ℕ, List, length, ap, sym, ◌∙◌, subst, arith}
+use Rattle.std.proofs.Common.{◌≡◌, ◌∷◌, [], length, ap, sym, ◌∙◌, subst, arith}
 use Rattle.std.specs.Prelude.{All}
 use Rattle.std.proofs.lemmas.List.{length-append}
 use Rattle.std.proofs.lemmas.List.Elements.{All-push}
 use Rattle.defer_walk.proofs.stages.nothing_added.Goals as goal
 
 pub loop-i-preserved : goal.loop-i-preserved
-loop-i-preserved g c = 
+loop-i-preserved g c =
     let e = c.in_ok-push.ensures.items in
     record {
       long = ap length e ∙ length-append c.loop-i.accs.items (c.zero.result ∷ []) ∙ omega (arith, c.loop-i.invariant.long);

@@ -5,9 +5,11 @@ use Rattle.hot_model.specs.Values.{BodyValue}
 use Rattle.defer_walk.specs.declared.listed.Listed.{Listed}
 use Rattle.defer_walk.specs.Grouping.{all_listed}
 use Rattle.defer_walk.specs.Standing.{VisitOf, meaning, StandsFor, IsNewAsk, pairs_in, left_by, given_of}
-use Rattle.defer_walk.proofs.Slots.{given_extends}
+use Rattle.defer_walk.proofs.Slots.{given_extends, extends_same}
 use Rattle.defer_walk.specs.Turning.{Beginning, Runs, AreReady}
 use Rattle.defer_walk.proofs.Walking.{ready, runs_begin, runs_as, runs_back, stands_on, stands_starved, end_newly, end_waits, at_ok}
+use Rattle.defer_walk.specs.declared.asks.Slot.{Slot}
+use Rattle.defer_walk.specs.Asked.{Extends}
 use Rattle.defer_walk.proofs.walk.Walk.advance.Goals as goal
 
 pub go_on-worked-requires-clause-fits : goal.go_on-worked-requires-clause-fits
@@ -114,3 +116,59 @@ pub returns-after-left-clause-given : goal.returns-after-left-clause-given
 returns-after-left-clause-given g c =
     let s = c.self.inside in
     (ap (λ s. s.given) c.self.view_is, given_extends s.given s.asks c.go_on-worked.new.asks c.self.invariant.0 c.go_on-worked.ensures.extends ∙ ap given_of c.self.view_is)
+
+pub returns-then-self-clause-stands : goal.returns-then-self-clause-stands
+returns-then-self-clause-stands g c = λ w stands h. h
+
+pub returns-then-self-clause-same : goal.returns-then-self-clause-same
+returns-then-self-clause-same g c = record { me = refl; visit = refl; piece = refl }
+
+pub returns-then-self-clause-given : goal.returns-then-self-clause-given
+returns-then-self-clause-given g c = (refl, refl)
+
+pub returns-then-self-clause-extends : goal.returns-then-self-clause-extends
+returns-then-self-clause-extends g c = extends_same c.args.self.now.slots
+
+pub returns-then-self-clause-ok : goal.returns-then-self-clause-ok
+returns-then-self-clause-ok g c = tt
+
+pub returns-then-self-clause-progress : goal.returns-then-self-clause-progress
+returns-then-self-clause-progress g c = tt
+
+pub returns-then-self-clause-waits : goal.returns-then-self-clause-waits
+returns-then-self-clause-waits g c = tt
+
+pub returns-then-self-clause-newly : goal.returns-then-self-clause-newly
+returns-then-self-clause-newly g c = tt
+
+pub returns-in-Err-clause-same : goal.returns-in-Err-clause-same
+returns-in-Err-clause-same g c = record { me = ap (λ s. s.me) c.self.view_is; visit = ap (λ s. s.visit) c.self.view_is; piece = ap (λ s. s.piece) c.self.view_is }
+
+pub returns-in-Err-clause-extends : goal.returns-in-Err-clause-extends
+returns-in-Err-clause-extends g c = subst (λ (xs : List Slot). Extends xs c.go_on-worked.new.asks) (ap (λ s. s.slots) c.self.view_is) c.go_on-worked.ensures.extends
+
+pub returns-in-Err-clause-ok : goal.returns-in-Err-clause-ok
+returns-in-Err-clause-ok g c = tt
+
+pub returns-in-Err-clause-progress : goal.returns-in-Err-clause-progress
+returns-in-Err-clause-progress g c = tt
+
+pub returns-in-Err-clause-waits : goal.returns-in-Err-clause-waits
+returns-in-Err-clause-waits g c = tt
+
+pub returns-in-Err-clause-newly : goal.returns-in-Err-clause-newly
+returns-in-Err-clause-newly g c = tt
+
+pub returns-in-Err-clause-err : goal.returns-in-Err-clause-err
+returns-in-Err-clause-err g c = (ap (λ s. s.started) c.self.view_is, refl)
+
+pub returns-after-left-clause-same : goal.returns-after-left-clause-same
+returns-after-left-clause-same g c = record { me = ap (λ s. s.me) c.self.view_is; visit = ap (λ s. s.visit) c.self.view_is; piece = ap (λ s. s.piece) c.self.view_is }
+
+pub returns-after-left-clause-extends : goal.returns-after-left-clause-extends
+returns-after-left-clause-extends g c = subst (λ (xs : List Slot). Extends xs c.go_on-worked.new.asks) (ap (λ s. s.slots) c.self.view_is) c.go_on-worked.ensures.extends
+
+pub returns-after-left-clause-ok : goal.returns-after-left-clause-ok
+returns-after-left-clause-ok g c =
+    let on = ap (λ s. s.started) c.self.view_is ∙ c.requires.started (sym (ap (λ s. s.starved) c.self.view_is) ∙ c.if-self.false) in
+    at_ok c.match-left.result _ (on, refl, c.if-self.false)
