@@ -214,6 +214,10 @@ drop_end v w me bodies accs tally slots keep whole rec bs i above below k =
     (subst (λ (xs : List ℕ). Keeps v w me bodies accs (noted (opened_keys whole rec.key) tally (length bs)) slots (keep ++ group whole rec xs)) none
     (subst (λ (m : ℕ). Keeps v w me bodies accs (noted (opened_keys whole rec.key) tally m) slots (keep ++ group whole rec (drop i bs))) n k))
 
+-- a place before the end of a list
+pub before_end : (xs : List ℕ) (i n l : ℕ) → i < n → n ≡ l → l ≡ length xs → i < length xs
+before_end xs i n l h e f = omega (arith, h, e, f)
+
 -- what was read in front
 pub read_front : {A : Type 0} (xs ys : List A) (i : ℕ) (x : A) → i < length xs → x ≡ get_or (xs ++ ys) i x → slice_get xs i ≡ Some x
 read_front [] ys i x h e = absurd (omega arith)

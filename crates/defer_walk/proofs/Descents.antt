@@ -340,3 +340,15 @@ slice_back xs n = take_all (length xs - n) (drop n xs) (omega (arith, length-dro
 pub runs_same : {A : Type 0} (v : VisitOf A) (w : World) (me : ℕ) (start : Beginning) (bodies : List BodyValue) (accs accs' : List A) (tally tally' : TallyValue) (slots slots' : List Slot) (rest rest' waiting waiting' : List PairValue) → accs' ≡ accs → tally' ≡ tally → slots' ≡ slots → rest' ≡ rest → waiting' ≡ waiting
     → Runs v w me start bodies accs tally slots rest waiting → Runs v w me start bodies accs' tally' slots' rest' waiting'
 runs_same v w me start bodies accs accs' tally tally' slots slots' rest rest' waiting waiting' a b c d e r = rw (a, b, c, d, e) r
+
+-- bodies are left behind a place before the end
+pub some_left : (xs : List ℕ) (n m l : ℕ) → n ≤ length xs → (n ≡ m → ⊥) → m ≡ l → l ≡ length xs → 0 < length (drop n xs)
+some_left xs n m l within other e f = omega (arith, length-drop n xs, within, other, e, f)
+
+-- children are counted from the last
+pub from_last : (back : ℕ) → 7 - back < 8
+from_last back = omega arith
+
+-- and none behind the end
+pub at_end : (xs : List ℕ) (n m l : ℕ) → n ≡ m → m ≡ l → l ≡ length xs → length xs ≤ n
+at_end xs n m l e f g = omega (arith, e, f, g)
