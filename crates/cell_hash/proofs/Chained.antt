@@ -120,5 +120,6 @@ read_at xs i x within e = get_or_from_slice_get xs i x 0 (slice_get_read xs (len
 pub key_at : (links : List Link) (i : ℕ) (l : Link) → i < length links → l ≡ get_or links i l → get_or (keys_of links) i 0 ≡ l.key
 key_at links i l within e = get_or-map (λ (x : Link). x.key) links i l 0 within ∙ ap (λ (x : Link). x.key) (sym e)
 
+-- and what stands before it
 pub before_at : (links : List Link) (i : ℕ) (l : Link) → i < length links → l ≡ get_or links i l → get_or (befores_of links) i 0 ≡ l.before
 before_at links i l within e = get_or-map (λ (x : Link). x.before) links i l 0 within ∙ ap (λ (x : Link). x.before) (sym e)

@@ -71,6 +71,7 @@ module _ {T : Type 0} where
   pub get_absent : (keys : List ℕ) (values : List T) (key : ℕ) → IsAbsentFrom keys 0 key → map.get (map.from_entries {R = nat_cmp} (pairs_of keys values)) key ≡ None
   get_absent keys values key absent = map.get-from_entries nat_cmp_total (pairs_of keys values) key ∙ find_absent keys values key absent
 
+  -- the value of a key stands where the key does
   pub get_at : (keys : List ℕ) (values : List T) (place key : ℕ) → length values ≡ length keys → AreApart keys → StandsAt keys place key → map.get (map.from_entries {R = nat_cmp} (pairs_of keys values)) key ≡ slice_get values place
   get_at keys values place key long apart at = map.get-from_entries nat_cmp_total (pairs_of keys values) key ∙ find_at keys values place key long apart at
 

@@ -6,6 +6,7 @@ use Rattle.cell_hash.specs.declared.chains.Link.{Link}
 abbrev pub keys_of : List Link → List ℕ
 keys_of links = map (λ l. l.key) links
 
+-- what each link has before it
 abbrev pub befores_of : List Link → List ℕ
 befores_of links = map (λ l. l.before) links
 

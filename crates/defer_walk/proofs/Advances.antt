@@ -44,6 +44,7 @@ use Rattle.defer_walk.proofs.Descents.{group_keeps, runs_with, away_below}
 pub root_branch : (w : World) (me : ℕ) → 0 < length (bodies_in w 1) → is_away w me 1 ≡ true → (q : ℕ) × IsBranch w q 1
 root_branch w me t a = let o = away_own w me 1 a in (_, record { cell = root_is_cell; some = t; own = o.0; outermost = inl refl })
 
+-- a walk that begins at the root comes from where it should
 pub root_comes : (w : World) (me : ℕ) (start : Beginning) (root : CellValue) (t whole : Bool) → t ≡ false → record_in w 1 ≡ Some root → ComesFrom t w me start (pair_with 0 whole root)
 root_comes w me start root t whole e r = subst (λ (x : Bool). ComesFrom x w me start (pair_with 0 whole root)) (sym e) (λ a.
     let f = record_some w 1 root r in
@@ -121,6 +122,7 @@ module _ {A : Type 0} (v : VisitOf A) (w : World) (me : ℕ) (start : Beginning)
     abbrev rec : CellValue
     rec = cell_record w.bodies key
 
+    -- bodies that waited are a group of their cell
     pub woken_runs : Runs v w me start bodies accs tally slots (keep ++ group whole (cell_record w.bodies key) bs) waiting
     woken_runs = subst (λ (ps : List PairValue). Runs v w me start bodies accs tally slots (keep ++ ps) waiting) (held_group w whole key bs) r
 
@@ -155,6 +157,7 @@ module _ {A : Type 0} (v : VisitOf A) (w : World) (me : ℕ) (start : Beginning)
           asked = λ k h. subst (Contains (asked_keys slots)) (sym (one_has key k (subst (λ (ks : List ℕ). Contains ks k) (outer_of_away w me key (full_length (bodies_in w key) asked.some) away) h))) there;
         }
 
+    -- bodies that got those of a leaf are done
     pub woken_done : (accs' : List A) (tally' : TallyValue) → IsSameTally (noted (opened_keys whole key) tally (length bs)) tally' → Keeps v w me bodies accs' (noted (opened_keys whole key) tally (length bs)) slots (waiting ++ keep) → Runs v w me start bodies accs' tally' slots (keep ++ []) waiting
     woken_done accs' tally' same k = runs_with v w me start bodies swap accs accs' tally tally' slots (keep ++ group whole rec bs) (keep ++ []) waiting
         (subst (λ (ps : List PairValue). Keeps v w me bodies accs' tally' slots (waiting ++ ps)) (sym (append-nil keep)) (keeps_tally v w me bodies swap accs' (noted (opened_keys whole key) tally (length bs)) tally' slots (waiting ++ keep) same k)) woken_runs
@@ -167,10 +170,12 @@ module _ {A : Type 0} (v : VisitOf A) (w : World) (me : ℕ) (start : Beginning)
         (parted v w me bodies swap accs tally slots whole false rec (key ∷ []) (λ j b a is o. inner_settles (v.adds b) (v.opens b) w me (pair_with j whole rec) a is (key ∷ []) o l.0 (rw away refl)) (λ k h. subst (Contains (asked_keys slots)) (sym (one_has key k h)) there) bs (waiting ++ keep) opened
         (group_keeps v w me start bodies swap accs tally slots keep waiting whole rec bs woken_runs))
 
+    -- bodies whose cell was answered by its children go on with these
     pub woken_parted : (tally' : TallyValue) (xs : List CellValue) → IsSameTally (noted (opened_keys whole key) tally (length bs)) tally' → Keeps v w me bodies accs (noted (opened_keys whole key) tally (length bs)) slots ((waiting ++ keep) ++ by_children false bs xs) → Runs v w me start bodies accs tally' slots (keep ++ by_children false bs xs) waiting
     woken_parted tally' xs same k = runs_with v w me start bodies swap accs accs tally tally' slots (keep ++ group whole rec bs) (keep ++ by_children false bs xs) waiting
         (subst (Keeps v w me bodies accs tally' slots) (append_assoc waiting keep (by_children false bs xs)) (keeps_tally v w me bodies swap accs (noted (opened_keys whole key) tally (length bs)) tally' slots ((waiting ++ keep) ++ by_children false bs xs) same k)) woken_runs
 
+    -- and these come from where they should
     pub woken_comes : (xs : List CellValue) → answer ≡ Children xs → start.advanced ≡ true → IsAwake start.slots start.pairs key → All (λ (r : CellValue). ComesFrom start.advanced w me start (pair_with 0 false r)) xs
     woken_comes xs e late awake =
         let l = children_answer w key xs (sym e ∙ true_here) in
@@ -205,11 +210,13 @@ more_left all ls ws more h e f = e ∙ ap (λ (xs : List Held). xs ++ more) f �
 listed_there : (all ls ws more : List Held) (h : Held) → all ≡ ls ++ more → ls ≡ ws ++ h ∷ [] → all_listed all ≡ all_listed ws ++ (listed_of h ++ all_listed more)
 listed_there all ls ws more h e f = ap all_listed (more_left all ls ws more h e f) ∙ flat_map-append listed_of ws (h ∷ more)
 
+-- what holds of all pairs that wait holds of those of one cell
 pub waits_of : (w : World) (P : PairValue → Type 0) (all ls ws more : List Held) (h : Held) → all ≡ ls ++ more → ls ≡ ws ++ h ∷ [] → All P (pairs_in w (all_listed all)) → All P (pairs_in w (listed_of h))
 waits_of w P all ls ws more h e f k =
     let split = ap (pairs_in w) (listed_there all ls ws more h e f) ∙ map-append (pair_in w) (all_listed ws) (listed_of h ++ all_listed more) ∙ ap (λ (ps : List PairValue). pairs_in w (all_listed ws) ++ ps) (map-append (pair_in w) (listed_of h) (all_listed more)) in
     All-front P (pairs_in w (listed_of h)) (pairs_in w (all_listed more)) (All-back P (pairs_in w (all_listed ws)) (pairs_in w (listed_of h) ++ pairs_in w (all_listed more)) (subst (All P) split k))
 
+-- the key of a cell for which a body waits is among those of the pairs
 pub key_there : (all ls ws more : List Held) (h : Held) → 0 < length h.bodies.items → all ≡ ls ++ more → ls ≡ ws ++ h ∷ [] → Contains (map (λ (x : Listed). x.key) (all_listed all)) h.key
 key_there all ls ws more h some e f =
     let one = by_first h.key h.whole h.bodies.items some in
@@ -227,6 +234,7 @@ still_waits v w me start bodies accs tally slots rest waiting g r h =
     let x : Extends start.slots slots = record { more = r.asks.more; new_is = r.asks.slots_are; unanswered = r.asks.unanswered } in
     All-weaker (Waits v w me bodies start.slots) (Waits v w me bodies slots) (λ q k. record { opened = k.opened; away = k.away; asked = keys_extend start.slots slots q.rec.key x k.asked }) g h
 
+-- a cell with bodies that wait is awake once its answer is there
 pub was_awake : {A : Type 0} (v : VisitOf A) (w : World) (me : ℕ) (start : Beginning) (bodies : List BodyValue) (accs : List A) (tally : TallyValue) (slots : List Slot) (rest waiting : List PairValue) → Runs v w me start bodies accs tally slots rest waiting
     → (all ls ws more : List Held) (h : Held) (answer : Answer) → start.pairs ≡ all_listed all → 0 < length h.bodies.items → all ≡ ls ++ more → ls ≡ ws ++ h ∷ [] → stored_at slots h.key ≡ Some answer → IsAwake start.slots start.pairs h.key
 was_awake v w me start bodies accs tally slots rest waiting r all ls ws more h answer same some e f got =
@@ -240,6 +248,7 @@ pub some_items : (bs : List ℕ) → eqb (length bs) 0 ≡ false → 0 < length 
 some_items [] e = absurd (let f : eqb 0 0 ≡ true = eq-eqb 0 0 refl in let y : false ≡ true = sym e ∙ f in cc)
 some_items (b ∷ bs) e = omega arith
 
+-- or none does
 pub no_items : (bs : List ℕ) → eqb (length bs) 0 ≡ true → bs ≡ []
 no_items [] e = refl
 no_items (b ∷ bs) e = absurd (omega (arith, eqb-true (length (b ∷ bs)) 0 e))

@@ -61,12 +61,15 @@ module _ {A : Type 0} (v : VisitOf A) (w : World) (me : ℕ) (bodies : List Body
 
   -- what is known of the first pair
   module _ (accs : List A) (tally : TallyValue) (slots : List Slot) (keep ps : List PairValue) (p : PairValue) (k : Keeps v w me bodies accs tally slots (keep ++ (p ∷ ps))) where
+    -- the first pair is one of the world
     pub first_pair : IsPair w p
     first_pair = All-head (IsPair w) p ps (All-back (IsPair w) keep (p ∷ ps) k.balance.cells)
 
+    -- its body is in the piece
     pub first_body : p.body < length bodies
     first_body = All-head (λ (q : PairValue). q.body < length bodies) p ps (All-back (λ (q : PairValue). q.body < length bodies) keep (p ∷ ps) k.balance.places)
 
+    -- and the mass of its cell fits in what the body has seen
     pub first_fits : ((b : BodyValue) (a : A) (t : Term) → v.seen (v.adds b a t) ≡ v.seen a + mass_of_term t) → IsGood w → (b : BodyValue) (a : A) → slice_get bodies p.body ≡ Some b → slice_get accs p.body ≡ Some a → v.seen a + p.rec.mass ≤ max_all_mass
     first_fits = keeps_fits v w me bodies accs tally slots (keep ++ ps) p (to_last accs tally slots keep ps p k) first_pair first_body
 
@@ -79,18 +82,23 @@ module _ {A : Type 0} (v : VisitOf A) (w : World) (me : ℕ) (bodies : List Body
 
   -- the first of the bodies that are left
   module _ (accs : List A) (tally : TallyValue) (slots : List Slot) (keep : List PairValue) (whole : Bool) (rec : CellValue) (bs : List ℕ) (i j : ℕ) (at : slice_get bs i ≡ Some j) (k : Keeps v w me bodies accs tally slots (keep ++ group whole rec (drop i bs))) where
+    -- the next body's pair is the first of those left
     pub next_first : Keeps v w me bodies accs tally slots (keep ++ (pair_with j whole rec ∷ group whole rec (drop (i + 1) bs)))
     next_first = subst (λ (xs : List ℕ). Keeps v w me bodies accs tally slots (keep ++ group whole rec xs)) (drop_get bs i j at) k
 
+    -- the next body is in the piece
     pub next_body : j < length bodies
     next_body = first_body accs tally slots keep (group whole rec (drop (i + 1) bs)) (pair_with j whole rec) next_first
 
+    -- its pair is one of the world
     pub next_pair : IsPair w (pair_with j whole rec)
     next_pair = first_pair accs tally slots keep (group whole rec (drop (i + 1) bs)) (pair_with j whole rec) next_first
 
+    -- the mass of the cell fits in what it has seen
     pub next_fits : ((b : BodyValue) (a : A) (t : Term) → v.seen (v.adds b a t) ≡ v.seen a + mass_of_term t) → IsGood w → (b : BodyValue) (a : A) → slice_get bodies j ≡ Some b → slice_get accs j ≡ Some a → v.seen a + rec.mass ≤ max_all_mass
     next_fits = first_fits accs tally slots keep (group whole rec (drop (i + 1) bs)) (pair_with j whole rec) next_first
 
+    -- and so does that of a leaf's bodies
     pub next_leaf_fits : (others : List BodyValue) → others ≡ bodies_in w rec.key → ((b : BodyValue) (a : A) (t : Term) → v.seen (v.adds b a t) ≡ v.seen a + mass_of_term t) → IsGood w → (b : BodyValue) (a : A) → slice_get bodies j ≡ Some b → slice_get accs j ≡ Some a → v.seen a + mass_of others ≤ max_all_mass
     next_leaf_fits others e sees good b a pb pa = subst (λ (n : ℕ). v.seen a + n ≤ max_all_mass) ((pair_full w (pair_with j whole rec) next_pair).2 ∙ sym (ap mass_of e)) (next_fits sees good b a pb pa)
 
@@ -118,15 +126,19 @@ module _ {A : Type 0} (v : VisitOf A) (w : World) (me : ℕ) (bodies : List Body
         ∙ ap (λ (qs : List PairValue). keep ++ qs) (map-append (λ b. pair_with b false rec) kept (j ∷ drop (i + 1) bs))
         ∙ sym (append_assoc keep (group false rec kept) (pair_with j false rec ∷ group false rec (drop (i + 1) bs)))) k
 
+    -- a body that is sifted is in the piece
     pub sift_body : j < length bodies
     sift_body = first_body accs tally slots (keep ++ group false rec kept) (group false rec (drop (i + 1) bs)) (pair_with j false rec) sift_first
 
+    -- its pair is one of the world
     pub sift_pair : IsPair w (pair_with j false rec)
     sift_pair = first_pair accs tally slots (keep ++ group false rec kept) (group false rec (drop (i + 1) bs)) (pair_with j false rec) sift_first
 
+    -- the cell has bodies
     pub sift_some : 0 < rec.count
     sift_some = let full = pair_full w (pair_with j false rec) sift_pair in subst (λ (n : ℕ). 0 < n) (sym full.1) full.0
 
+    -- and its mass fits in what the body has seen
     pub sift_fits : ((b : BodyValue) (a : A) (t : Term) → v.seen (v.adds b a t) ≡ v.seen a + mass_of_term t) → IsGood w → (b : BodyValue) (a : A) → slice_get bodies j ≡ Some b → slice_get accs j ≡ Some a → v.seen a + rec.mass ≤ max_all_mass
     sift_fits = first_fits accs tally slots (keep ++ group false rec kept) (group false rec (drop (i + 1) bs)) (pair_with j false rec) sift_first
 
@@ -202,12 +214,17 @@ drop_end v w me bodies accs tally slots keep whole rec bs i above below k =
     (subst (λ (xs : List ℕ). Keeps v w me bodies accs (noted (opened_keys whole rec.key) tally (length bs)) slots (keep ++ group whole rec xs)) none
     (subst (λ (m : ℕ). Keeps v w me bodies accs (noted (opened_keys whole rec.key) tally m) slots (keep ++ group whole rec (drop i bs))) n k))
 
+-- a place before the end of a list
+pub before_end : (xs : List ℕ) (i n l : ℕ) → i < n → n ≡ l → l ≡ length xs → i < length xs
+before_end xs i n l h e f = omega (arith, h, e, f)
+
 -- what was read in front
 pub read_front : {A : Type 0} (xs ys : List A) (i : ℕ) (x : A) → i < length xs → x ≡ get_or (xs ++ ys) i x → slice_get xs i ≡ Some x
 read_front [] ys i x h e = absurd (omega arith)
 read_front (y ∷ xs) ys zero x h e = ap Some (sym e)
 read_front (y ∷ xs) ys (suc i) x h e = read_front xs ys i x (omega (arith, h)) e
 
+-- what is left of a joined list without its front
 pub drop_front : {A : Type 0} (xs ys : List A) (n : ℕ) → n ≡ length xs → drop n (xs ++ ys) ≡ ys
 drop_front {A = A} xs ys n e = subst (λ (m : ℕ). drop m (xs ++ ys) ≡ ys) (sym e) (by_front xs)
   where
@@ -243,6 +260,7 @@ noted_has c t (suc n) k =
       (λ h. Contains-append_left (noted (c ∷ []) t (suc n)).cells (c ∷ []) k (s.1 h)),
     )
 
+-- so many notes of one cell are one note of so many
 pub noted_all : (c : ℕ) (t new : TallyValue) (n : ℕ) → 0 < n → NotesTimes t new c n → IsSameTally (noted (c ∷ []) t n) new
 noted_all c t new zero some h = absurd (omega (arith, some))
 noted_all c t new (suc n) some h = record {
@@ -255,6 +273,7 @@ pub same_ok : {T E : Type 0} (r : Result T E) (P Q : Type 0) → (P → Q) → O
 same_ok (Ok x) P Q f h = f h
 same_ok (Err e) P Q f h = h
 
+-- what holds anyway holds at Ok
 pub always_ok : {T E : Type 0} (r : Result T E) (Q : Type 0) → Q → OnOk r Q
 always_ok (Ok x) Q h = h
 always_ok (Err e) Q h = tt

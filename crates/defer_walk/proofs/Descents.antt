@@ -94,9 +94,11 @@ module _ {A : Type 0} (v : VisitOf A) (w : World) (me : ℕ) (start : Beginning)
   comes_below true whole flag rec r d i full h low e c = absurd (let e : true ≡ false = sym c.1 ∙ (parted_here w me rec.key i h).1 in cc)
 
   module _ (accs : List A) (tally : TallyValue) (slots : List Slot) (keep waiting : List PairValue) (whole : Bool) (rec : CellValue) (bs : List ℕ) (r : Runs v w me start bodies accs tally slots (keep ++ group whole rec bs) waiting) where
+    -- what waits and what is kept stand before the group
     pub group_keeps : Keeps v w me bodies accs tally slots ((waiting ++ keep) ++ group whole rec bs)
     group_keeps = subst (Keeps v w me bodies accs tally slots) (sym (append_assoc waiting keep (group whole rec bs))) r.keeps
 
+    -- the cell of a group with bodies is one of the world
     pub group_pair : 0 < length bs → IsPair w (pair_with 0 whole rec)
     group_pair some = by_first bs some group_keeps
       where
@@ -134,10 +136,12 @@ module _ {A : Type 0} (v : VisitOf A) (w : World) (me : ℕ) (start : Beginning)
         let i = (inner-is w me rec.key).0 part in
         parted v w me bodies swap accs tally slots whole false rec [] (λ j b a is o. inner_settles (v.adds b) (v.opens b) w me (pair_with j whole rec) a is [] o i.0 (rw (i.1) refl)) (λ k h. absurd (nil_has k h)) bs (waiting ++ keep) opened group_keeps
 
+    -- bodies go on with the children of a cell of several ranks, which are added whole
     pub group_spread : IsGood w → 0 < length bs → AreOpened v.opens bodies whole rec bs → part_of w me rec.key ≡ Spread → Keeps v w me bodies accs (noted (opened_keys whole rec.key) tally (length bs)) slots ((waiting ++ keep) ++ by_children true bs (child_records w rec.key))
     group_spread good some opened part =
         parted v w me bodies swap accs tally slots whole true rec [] (λ j b a is o. spread_settles (v.adds b) (v.opens b) w me (pair_with j whole rec) a is good o part) (λ k h. absurd (nil_has k h)) bs (waiting ++ keep) opened group_keeps
 
+    -- and the walk goes on with these
     pub runs_parted : (flag : Bool) (tally' : TallyValue) → IsSameTally (noted (opened_keys whole rec.key) tally (length bs)) tally' → Keeps v w me bodies accs (noted (opened_keys whole rec.key) tally (length bs)) slots ((waiting ++ keep) ++ by_children flag bs (child_records w rec.key))
         → Runs v w me start bodies accs tally' slots (keep ++ by_children flag bs (child_records w rec.key)) waiting
     runs_parted flag tally' same k = runs_with accs accs tally tally' slots (keep ++ group whole rec bs) (keep ++ by_children flag bs (child_records w rec.key)) waiting
@@ -212,6 +216,7 @@ module _ {A : Type 0} (v : VisitOf A) (w : World) (me : ℕ) (start : Beginning)
         chained = chained_by start.advanced s (new_ask s h);
       }
 
+      -- what is stored stays true with a cell asked for
       pub group_stored : AreStored v w me new
       group_stored = record {
         truth = subst (All (λ (s : Slot). IfSome s.answer (λ a. a ≡ true_answer w s.key))) (sym g.new_is)
@@ -235,6 +240,7 @@ module _ {A : Type 0} (v : VisitOf A) (w : World) (me : ℕ) (start : Beginning)
       each_absent (j ∷ xs) = All-append (λ (q : PairValue). stored_at new q.rec.key ≡ None) (pair_with j whole rec ∷ []) (group whole rec xs)
           (All-one (λ (q : PairValue). stored_at new q.rec.key ≡ None) (pair_with j whole rec) (stored_extends slots new rec.key x ∙ stored_since rec.key ∙ absent_by start.advanced comes r.clear)) (each_absent xs)
 
+      -- and the bodies wait for it
       pub runs_held : Contains (asked_keys new) rec.key → Runs v w me start bodies accs tally new keep (waiting ++ group whole rec bs)
       runs_held there =
           let p = group whole rec bs in
@@ -297,6 +303,7 @@ children_last w c back flag bs keep r h e =
     ap (λ (n : ℕ). keep ++ by_children flag bs (records_to w c n)) up ∙ ap (λ (rs : List CellValue). keep ++ by_children flag bs rs) more ∙ ap (λ (ps : List PairValue). keep ++ ps) split
     ∙ sym (append_assoc keep (by_children flag bs (records_to w c i)) (group flag r bs)) ∙ ap (λ (n : ℕ). (keep ++ by_children flag bs (records_to w c n)) ++ group flag r bs) down
 
+-- a child without bodies adds no record
 pub children_none : (w : World) (c back : ℕ) → back < 8 → record_in w (child c (7 - back)) ≡ None → records_to w c (8 - back) ≡ records_to w c (8 - (back + 1))
 children_none w c back h e =
     let i = 7 - back in
@@ -304,11 +311,13 @@ children_none w c back h e =
     let down : i ≡ 8 - (back + 1) = omega (arith, h) in
     ap (records_to w c) up ∙ records_more w c i (omega (arith, h)) ∙ ap (λ (o : Option CellValue). records_to w c i ++ option_to_list o) e ∙ append-nil (records_to w c i) ∙ ap (records_to w c) down
 
+-- no child is left
 pub children_done : (w : World) (c back : ℕ) (flag : Bool) (bs : List ℕ) (keep : List PairValue) → 8 ≤ back → keep ++ by_children flag bs (records_to w c (8 - back)) ≡ keep
 children_done w c back flag bs keep h =
     let z : 8 - back ≡ 0 = omega (arith, h) in
     ap (λ (n : ℕ). keep ++ by_children flag bs (records_to w c n)) z ∙ append-nil keep
 
+-- the front of a joined list
 pub take_front : {A : Type 0} (xs ys zs : List A) (n : ℕ) → n ≡ length xs → zs ≡ xs ++ ys → take n zs ≡ xs
 take_front {A = A} xs ys zs n e f = ap (take n) f ∙ subst (λ (m : ℕ). take m (xs ++ ys) ≡ xs) (sym e) (by_front xs)
   where
@@ -331,3 +340,15 @@ slice_back xs n = take_all (length xs - n) (drop n xs) (omega (arith, length-dro
 pub runs_same : {A : Type 0} (v : VisitOf A) (w : World) (me : ℕ) (start : Beginning) (bodies : List BodyValue) (accs accs' : List A) (tally tally' : TallyValue) (slots slots' : List Slot) (rest rest' waiting waiting' : List PairValue) → accs' ≡ accs → tally' ≡ tally → slots' ≡ slots → rest' ≡ rest → waiting' ≡ waiting
     → Runs v w me start bodies accs tally slots rest waiting → Runs v w me start bodies accs' tally' slots' rest' waiting'
 runs_same v w me start bodies accs accs' tally tally' slots slots' rest rest' waiting waiting' a b c d e r = rw (a, b, c, d, e) r
+
+-- bodies are left behind a place before the end
+pub some_left : (xs : List ℕ) (n m l : ℕ) → n ≤ length xs → (n ≡ m → ⊥) → m ≡ l → l ≡ length xs → 0 < length (drop n xs)
+some_left xs n m l within other e f = omega (arith, length-drop n xs, within, other, e, f)
+
+-- children are counted from the last
+pub from_last : (back : ℕ) → 7 - back < 8
+from_last back = omega arith
+
+-- and none behind the end
+pub at_end : (xs : List ℕ) (n m l : ℕ) → n ≡ m → m ≡ l → l ≡ length xs → length xs ≤ n
+at_end xs n m l e f g = omega (arith, e, f, g)

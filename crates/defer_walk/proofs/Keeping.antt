@@ -21,14 +21,17 @@ use Rattle.defer_walk.specs.Standing.{VisitOf, fold_in, opened_by, asked_by, Are
 use Rattle.defer_walk.specs.Turning.{Keeps}
 use Rattle.defer_walk.proofs.Slots.{some_same, get_set_same, get_set_other}
 
+-- what holds of a joined list holds of its front
 pub All-front : {A : Type 0} (P : A → Type 0) (xs ys : List A) → All P (xs ++ ys) → All P xs
 All-front P [] ys h = All-nil P
 All-front P (x ∷ xs) ys h = All-cons P x xs (All-head P x (xs ++ ys) h) (All-front P xs ys (All-tail P x (xs ++ ys) h))
 
+-- and of its back
 pub All-back : {A : Type 0} (P : A → Type 0) (xs ys : List A) → All P (xs ++ ys) → All P ys
 All-back P [] ys h = h
 All-back P (x ∷ xs) ys h = All-back P xs ys (All-tail P x (xs ++ ys) h)
 
+-- a list of one element
 pub All-one : {A : Type 0} (P : A → Type 0) (x : A) → P x → All P (x ∷ [])
 All-one P x h = All-cons P x [] h (All-nil P)
 
@@ -38,21 +41,25 @@ get_has xs i x e = (i, slice_get_within xs i x e, get_or_from_slice_get xs i x x
 
 -- what rests of pairs of one body
 module _ {X : Type 0} (rest : PairValue → List X) where
+  -- all of it where all pairs are the body's
   pub rests_same : (i : ℕ) (xs : List PairValue) → All (λ q. q.body ≡ i) xs → rests_at rest i xs ≡ flat_map rest xs
   rests_same i [] h = refl
   rests_same i (x ∷ xs) h =
       let t : eqb x.body i ≡ true = eq-eqb _ _ (All-head (λ (q : PairValue). q.body ≡ i) x xs h) in
       rw t (ap (λ (ys : List X). rest x ++ ys) (rests_same i xs (All-tail (λ (q : PairValue). q.body ≡ i) x xs h)))
 
+  -- nothing for another body
   pub rests_other : (i j : ℕ) → (i ≡ j → ⊥) → (xs : List PairValue) → All (λ q. q.body ≡ i) xs → rests_at rest j xs ≡ []
   rests_other i j n [] h = refl
   rests_other i j n (x ∷ xs) h =
       let t : eqb x.body j ≡ false = ne_eqb _ _ (λ e. n (sym (All-head (λ (q : PairValue). q.body ≡ i) x xs h) ∙ e)) in
       rw t (rests_other i j n xs (All-tail (λ (q : PairValue). q.body ≡ i) x xs h))
 
+  -- of one pair for its body
   pub rests_one : (p : PairValue) → rests_at rest p.body (p ∷ []) ≡ rest p
   rests_one p = rests_same p.body (p ∷ []) (All-one (λ (q : PairValue). q.body ≡ p.body) p refl) ∙ append-nil (rest p)
 
+  -- and for another one nothing
   pub rests_none : (p : PairValue) (j : ℕ) → (p.body ≡ j → ⊥) → rests_at rest j (p ∷ []) ≡ []
   rests_none p j n = rests_other p.body j n (p ∷ []) (All-one (λ (q : PairValue). q.body ≡ p.body) p refl)
 
@@ -68,6 +75,7 @@ module _ (rest : BodyValue → PairValue → List ℕ) (all : BodyValue → List
       (subst (λ (ks : List ℕ). Contains ks k) (sym (rests-append (rest b) p.body keep (p ∷ [])))
       (Contains-append_right (rests_at (rest b) p.body keep) (rests_at (rest b) p.body (p ∷ [])) k (subst (λ (ks : List ℕ). Contains ks k) (sym (rests_one (rest b) p)) h)))
 
+  -- the cells stay traced where others stand in the place of a pair
   pub traced_settled : (done done' here : List ℕ) (keep next : List PairValue) (p : PairValue) (b₀ : BodyValue) → slice_get bodies p.body ≡ Some b₀ → rest b₀ p ≡ here ++ flat_map (rest b₀) next → All (λ q. q.body ≡ p.body) next
       → ((k : ℕ) → Contains done' k ↔ (Contains done k ⊎ Contains here k)) → IsTraced rest all bodies done (keep ++ p ∷ []) → IsTraced rest all bodies done' (keep ++ next)
   traced_settled done done' here keep next p b₀ pb eq same grown t = record {
@@ -137,10 +145,12 @@ All-blocks P xs ys zs us h =
     (All-append P zs (ys ++ us) (All-front P zs us last) (All-append P ys us (All-front P ys (zs ++ us) back) (All-back P zs us last)))
 
 module _ {X : Type 0} (r : PairValue → List X) (i : ℕ) where
+  -- what rests of four blocks of pairs
   pub rests_blocks : (xs ys zs us : List PairValue) → rests_at r i (xs ++ (ys ++ (zs ++ us))) ≡ rests_at r i xs ++ (rests_at r i ys ++ (rests_at r i zs ++ rests_at r i us))
   rests_blocks xs ys zs us =
       rests-append r i xs (ys ++ (zs ++ us)) ∙ ap (λ (ts : List X). rests_at r i xs ++ ts) (rests-append r i ys (zs ++ us) ∙ ap (λ (ts : List X). rests_at r i ys ++ ts) (rests-append r i zs us))
 
+  -- no cell is lost where two blocks change places
   pub moved_rests : (xs ys zs us : List PairValue) (k : X) → Contains (rests_at r i (xs ++ (ys ++ (zs ++ us)))) k → Contains (rests_at r i (xs ++ (zs ++ (ys ++ us)))) k
   moved_rests xs ys zs us k h =
       let a = rests_at r i xs in

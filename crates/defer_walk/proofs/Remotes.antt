@@ -31,6 +31,7 @@ not_root opens w me q c own other needed is =
     let at_root : All (λ (b : BodyValue). rank_of w b ≡ q) w.bodies = subst (λ (bs : List BodyValue). All (λ (b : BodyValue). rank_of w b ≡ q) bs) (inside-root w.bodies) (subst (λ (k : ℕ). IsOfRank w q k) is own) in
     other (sym (All-has (λ (b : BodyValue). rank_of w b ≡ q) w.bodies needed.1.0 at_root in_piece.0) ∙ eqb-true _ _ in_piece.1)
 
+-- each cell that is asked for is such a cell
 pub ask_is_remote : {A : Type 0} (v : VisitOf A) (w : World) (me : ℕ) (slots : List Slot) (s : Slot) → IsGood w → IsAsk v w me slots s → IsRemote w me s.owner s.key
 ask_is_remote v w me slots s good ask =
     let owned = (away-is w me s.owner s.key ask.cell ask.some).0 ask.away in

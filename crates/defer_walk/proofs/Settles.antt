@@ -32,6 +32,7 @@ pair_full w p is =
     let r = record_some w p.rec.key p.rec is.rec in
     (some_length (bodies_in w p.rec.key) r.0, ap (λ (c : CellValue). c.count) r.1, ap (λ (c : CellValue). c.mass) r.1)
 
+-- a power of nine is at least 1
 pub nine_pos : (n : ℕ) → 0 < 9 ^ n
 nine_pos zero = omega arith
 nine_pos (suc n) = omega (arith, pow-succ' 9 n, nine_pos n)
@@ -62,6 +63,7 @@ bodies_answer w c xs e = by_test (is_leaf w c) refl e
     by_test true l f = (l, cc)
     by_test false l f = absurd (cc)
 
+-- and its children where it is no leaf
 pub children_answer : (w : World) (c : ℕ) (xs : List CellValue) → Children xs ≡ true_answer w c → (is_leaf w c ≡ false) × (xs ≡ child_records w c)
 children_answer w c xs e = by_test (is_leaf w c) refl e
   where
@@ -191,6 +193,7 @@ module _ {A : Type 0} (add : A → Term → A) (opens : CellValue → Bool) (w :
 pub drop_get : {A : Type 0} (xs : List A) (i : ℕ) (x : A) → slice_get xs i ≡ Some x → drop i xs ≡ x ∷ drop (i + 1) xs
 drop_get xs i x e = rw add-one (drop-cons xs i x (slice_get_within xs i x e) ∙ ap (λ y. y ∷ drop (suc i) xs) (get_or_from_slice_get xs i x x e))
 
+-- there is an element at each place of a list
 pub get_some : {A : Type 0} (xs : List A) (i : ℕ) → i < length xs → (x : A) × (slice_get xs i ≡ Some x)
 get_some xs i h =
     elim (slice_get_cases xs i).1 [
@@ -198,17 +201,20 @@ get_some xs i h =
       | inr f ↦ absurd (omega arith)
     ]
 
+-- a body added, and those behind it left
 pub near_value : {A : Type 0} (add : A → Term → A) (xs : List BodyValue) (i : ℕ) (x : BodyValue) (a b last : A) → slice_get xs i ≡ Some x → b ≡ add a (Near x)
     → added add a (map Near (drop i xs)) ≡ last → added add b (map Near (drop (i + 1) xs)) ≡ last
 near_value add xs i x a b last e f h =
     let eq : added add a (map Near (x ∷ drop (i + 1) xs)) ≡ last = subst (λ (ys : List BodyValue). added add a (map Near ys) ≡ last) (drop_get xs i x e) h in
     rw f eq
 
+-- their masses fit with that one seen
 pub near_room : (xs : List BodyValue) (i : ℕ) (x : BodyValue) (s t n : ℕ) → slice_get xs i ≡ Some x → t ≡ s + x.mass → s + mass_of (drop i xs) ≤ n → t + mass_of (drop (i + 1) xs) ≤ n
 near_room xs i x s t n e f h =
     let le : s + mass_of (x ∷ drop (i + 1) xs) ≤ n = subst (λ (ys : List BodyValue). s + mass_of ys ≤ n) (drop_get xs i x e) h in
     omega (arith, f, sum_by-cons mass_of_body x (drop (i + 1) xs))
 
+-- and its own mass fits
 pub near_fits : (xs : List BodyValue) (i : ℕ) (x : BodyValue) (s n : ℕ) → slice_get xs i ≡ Some x → s + mass_of (drop i xs) ≤ n → s + x.mass ≤ n
 near_fits xs i x s n e h =
     let le : s + mass_of (x ∷ drop (i + 1) xs) ≤ n = subst (λ (ys : List BodyValue). s + mass_of ys ≤ n) (drop_get xs i x e) h in

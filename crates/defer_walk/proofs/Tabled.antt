@@ -1,7 +1,7 @@
 -- The table of answers beside the order in which cells were asked for.
 use Rattle.std.proofs.Common.{lit<, ◌≡◌, ℕ, zero, suc, ◌<◌, Bool, true, false, List, [], ◌∷◌, ◌++◌, length, refl, ap, sym, ◌∙◌, subst, arith, Some, None, Option, inl, inr, get_or, eqb, Bor}
 use Rattle.std.specs.Option.{is_some, option_copied, option_flatten}
-use Rattle.std.specs.Prelude.{slice_get, All, Contains, IsSome, OnOk, is_ok, if◌then◌else◌, ◌↔◌}
+use Rattle.std.specs.Prelude.{slice_get, Contains, IsSome, OnOk, is_ok, if◌then◌else◌, ◌↔◌}
 use Rattle.std.specs.declared.result.Result.{Result}
 use Rattle.std.specs.declared.result.Result.TheVariants.{Ok, Err}
 use Rattle.std.specs.Ordering.{nat_cmp}
@@ -21,6 +21,7 @@ pub copied_some : {A : Type 0} (o : Option (Bor A)) → is_some (option_copied o
 copied_some None = refl
 copied_some (Some x) = refl
 
+-- what is not there is None
 pub none_is : {A : Type 0} (o : Option A) → is_some o ≡ false → o ≡ None
 none_is None e = refl
 none_is (Some x) e = absurd (let f : true ≡ false = e in cc)
@@ -67,6 +68,7 @@ once_below x xs once i j a b e f k = let s : suc i ≡ suc j = once (suc i) (suc
 abbrev no_answers : Answers
 no_answers = table.empty
 
+-- an empty table is that of no cells
 pub empty_table : (m : Answers) (order : List Ask) → m ≡ table.empty → order ≡ [] → IsTableOf m order
 empty_table m order e f = subst (λ (t : Answers). IsTableOf t order) (sym e) (subst (IsTableOf no_answers) (sym f) (record { keys = keys; once = once }))
   where
@@ -132,15 +134,18 @@ module _ (m : Answers) where
   slot_of (x ∷ xs) (suc i) s e = slot_of xs i s e
 
   module _ (order : List Ask) (is : IsTableOf m order) where
+    -- no two cells have one key
     pub slots_apart : AreApart (slots_in m order)
     slots_apart i j s t e f k =
         let x = slot_of order i s e in
         let y = slot_of order j t f in
         is.once i j x.0 y.0 x.1 y.1 (ap (λ (r : Slot). r.key) x.2 ∙ k ∙ sym (ap (λ (r : Slot). r.key) y.2))
 
+    -- a key of the table was asked for
     pub has_key : (key : ℕ) → IsSome (table.get m key) → Contains (asked_keys (slots_in m order)) key
     has_key key h = subst (λ (ks : List ℕ). Contains ks key) (sym (keys_in order)) ((is.keys key).0 h)
 
+    -- and a key that was asked for is in the table
     pub key_there : (key : ℕ) → Contains (asked_keys (slots_in m order)) key → IsSome (table.get m key)
     key_there key h = (is.keys key).1 (subst (λ (ks : List ℕ). Contains ks key) (keys_in order) h)
 
@@ -151,6 +156,7 @@ module _ (m : Answers) where
     pub stored_absent : (key : ℕ) → table.get m key ≡ None → stored_at (slots_in m order) key ≡ None
     stored_absent key e = stored_none (slots_in m order) key (λ h. lacks_key key e (subst (λ (ks : List ℕ). Contains ks key) (keys_in order) h))
 
+    -- and finds nothing else
     pub stored_there : (key : ℕ) (o : Option Answer) → table.get m key ≡ Some o → stored_at (slots_in m order) key ≡ o
     stored_there key o e = stored_in order key ((is.keys key).0 (ap is_some e)) ∙ ap (λ (p : Option (Option Answer)). option_flatten p) e
 
@@ -162,6 +168,7 @@ module _ (m : Answers) where
         ∙ ap (λ (ss : List Slot). ss ++ slot_in (table.insert m key None) (record { owner = owner; key = key }) ∷ []) (same_without order key None (lacks_key key e))
         ∙ ap (λ (o : Option (Option Answer)). slots_in m order ++ (record { owner = owner; key = key; answer = option_flatten o }) ∷ []) (got_same key None)
 
+    -- the list of the cells with this one
     pub grows : (owner key : ℕ) (now : List Slot) (n : Answers) (xs : List Ask) → table.get m key ≡ None → slots_in m order ≡ now
         → n ≡ table.insert m key None → xs ≡ order ++ (record { owner = owner; key = key }) ∷ [] → Grows owner key now (slots_in n xs)
     grows owner key now n xs e view inserted pushed = record {
@@ -174,6 +181,7 @@ module _ (m : Answers) where
           (All-nil (λ (s : Slot). (s.owner ≡ owner) × (s.key ≡ key) × (s.answer ≡ None)));
     }
 
+    -- and the table with it
     pub table_grows : (a : Ask) → table.get m a.key ≡ None → IsTableOf (table.insert m a.key None) (order ++ a ∷ [])
     table_grows a e = record { keys = keys; once = once }
       where
@@ -218,6 +226,7 @@ module _ (m : Answers) where
     pub slots_filled : (key : ℕ) (answer : Answer) → slots_in (table.insert m key (Some answer)) order ≡ filled (slots_in m order) key answer
     slots_filled key answer = filled_in order key answer is.once
 
+    -- and the table stays one of the cells
     pub table_filled : (key : ℕ) (answer : Answer) → IsSome (table.get m key) → IsTableOf (table.insert m key (Some answer)) order
     table_filled key answer h = record { keys = keys; once = is.once }
       where
@@ -227,3 +236,9 @@ module _ (m : Answers) where
               | inl q ↦ ((λ g. subst (Contains (ask_keys order)) q ((is.keys key).0 h)), (λ g. ap is_some (ap (table.get (table.insert m key (Some answer))) (sym q) ∙ got_same key (Some answer))))
               | inr n ↦ ((λ g. (is.keys k).0 (ap is_some (sym (got_other key (Some answer) k n)) ∙ g)), (λ g. ap is_some (got_other key (Some answer) k n) ∙ (is.keys k).1 g))
             ]
+
+-- a key that was just asked for is among the keys
+pub asked_last : (m : Answers) (order xs : List Ask) (a : Ask) → xs ≡ order ++ a ∷ [] → Contains (asked_keys (slots_in m xs)) a.key
+asked_last m order xs a e =
+    subst (λ (ks : List ℕ). Contains ks a.key) (sym (keys_in m xs))
+    (subst (λ (ys : List Ask). Contains (ask_keys ys) a.key) (sym e) (ask_has (order ++ a ∷ []) (length order) a (get_end order a)))

@@ -28,6 +28,7 @@ use Rattle.defer_walk.proofs.Settles.{pair_full}
 use Rattle.defer_walk.proofs.Keeping.{rests_one}
 use Rattle.defer_walk.proofs.Openings.{opened_short, all_short}
 
+-- a filtered list is no longer
 pub filter_short : {A : Type 0} (p : A → Bool) (xs : List A) → length (filter p xs) ≤ length xs
 filter_short p [] = omega arith
 filter_short {A} p (x ∷ xs) = elim (p x) as (λ (t : Bool). length (cond t (x ∷ filter p xs) (filter p xs)) ≤ suc (length xs)) [

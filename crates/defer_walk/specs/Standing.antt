@@ -123,6 +123,10 @@ pub record Waits {A : Type 0} (v : VisitOf A) (w : World) (me : ℕ) (bodies : L
   pub away : (q : ℕ) × (part_of w me p.rec.key ≡ Away q)
   pub asked : Contains (asked_keys slots) p.rec.key
 
+-- the cells of the pairs lack their answers
+abbrev pub AreUnanswered : List Slot → List Listed → Type 0
+AreUnanswered slots pairs = All (λ p. stored_at slots p.key ≡ None) pairs
+
 -- no cell was asked for below one that a pair waits for
 abbrev pub NoneBelow : List Slot → List Listed → Type 0
 NoneBelow slots pairs = All (λ s. All (λ p. parent s.key ≢ p.key) pairs) slots

@@ -11,14 +11,15 @@ ghost use Rattle.defer_walk.specs.Standing.{StandsFor, Waits, IsSameWalk, IsSame
 use crate::asks::Asks;
 use crate::cells::Cells;
 use crate::held::Held;
-use crate::progress::{Ask, Progress, WalkResult};
+use crate::progress::{Ask, Progress, WalkResult, progress_of};
 use crate::stages::{go_on, nothing_added};
 use crate::tally::Tally;
 use hot_model::{Answered, Body, Visit};
 use std::alloc::{AllocError, Global};
 use std::marker::Model;
 
-/// The walk of one rank's piece through the tree of all bodies.
+/// The walk of one rank's piece through the tree of all bodies. Where no answer came since the last
+/// advance, all pairs that are left still wait, and an advance looks at none of them.
 #[derive(Drop)]
 pub struct Walk<V: Visit> {
     alloc: Global,
@@ -33,18 +34,19 @@ pub struct Walk<V: Visit> {
     tally: Tally,
     started: bool,
     advanced: bool,
+    all_wait: bool,
     starved: bool,
 }
 
 impl<V: Visit> Model for Walk<V> {
-    ghost use Rattle.std.specs.Prelude.{◌≡◌, ◌≤◌, false, length};
-    ghost use Rattle.defer_walk.specs.Standing.{WalkState, left_by};
+    ghost use Rattle.std.specs.Prelude.{◌≡◌, ◌≤◌, true, false, length};
+    ghost use Rattle.defer_walk.specs.Standing.{WalkState, left_by, AreUnanswered};
 
     ghost Value = { WalkState V V.Acc };
 
     ghost view = { λ p. record { me = p.me; visit = p.visit; piece = p.piece.items; accs = p.accs.items; pairs = left_by p.advanced (length p.piece.items) p.held.items; slots = p.asks; given = p.given; tally = p.tally; started = p.started; advanced = p.advanced; starved = p.starved } };
 
-    ghost invariant = { λ p. (p.given ≤ length p.asks) × (p.starved ≡ false → p.left ≡ length (left_by p.advanced (length p.piece.items) p.held.items)) };
+    ghost invariant = { λ p. (p.given ≤ length p.asks) × (p.starved ≡ false → p.left ≡ length (left_by p.advanced (length p.piece.items) p.held.items)) × (p.all_wait ≡ true → (p.advanced ≡ true) × AreUnanswered p.asks (left_by p.advanced (length p.piece.items) p.held.items)) };
 }
 
 impl<V: Visit> Walk<V> {
@@ -69,6 +71,7 @@ impl<V: Visit> Walk<V> {
             tally: Tally::new(alloc),
             started: false,
             advanced: true,
+            all_wait: false,
             starved: false,
         })
     }
@@ -91,6 +94,7 @@ impl<V: Visit> Walk<V> {
         }
         self.started = true;
         self.advanced = false;
+        self.all_wait = false;
         self.left = self.piece.len() as u64;
         Ok(())
     }
@@ -115,6 +119,9 @@ impl<V: Visit> Walk<V> {
         if self.starved {
             return Err(AllocError);
         }
+        if self.all_wait {
+            return Ok(progress_of(self.left));
+        }
         let mut held = Vec::new(self.alloc);
         let worked = go_on(
             self.alloc,
@@ -137,10 +144,8 @@ impl<V: Visit> Walk<V> {
                 self.held = held;
                 self.left = left;
                 self.advanced = true;
-                match left {
-                    0 => Ok(Progress::Done),
-                    n => Ok(Progress::Waiting(n)),
-                }
+                self.all_wait = true;
+                Ok(progress_of(left))
             }
         }
     }
@@ -178,6 +183,7 @@ impl<V: Visit> Walk<V> {
         ensures given { given_of self.new ≡ given_of self.old }
     {
         let Answered { key, answer } = item;
+        self.all_wait = false;
         self.asks.fill(key, answer);
     }
 

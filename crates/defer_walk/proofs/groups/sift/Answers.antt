@@ -12,7 +12,7 @@ use Rattle.defer_walk.specs.Turning.{Keeps}
 use Rattle.defer_walk.proofs.Keeping.{All-one}
 use Rattle.defer_walk.proofs.Slots.{some_same}
 use Rattle.defer_walk.proofs.Turnings.{got}
-use Rattle.defer_walk.proofs.Blocks.{sift_body, sift_some, sift_fits, sift_far, sift_on, read_front, drop_front}
+use Rattle.defer_walk.proofs.Blocks.{sift_body, sift_some, sift_fits, sift_far, sift_on, read_front, before_end, drop_front}
 use Rattle.defer_walk.proofs.groups.sift.Goals.{then-opens+in_ok-push, else-opens+in_ok-far}
 use Rattle.defer_walk.proofs.groups.sift.Goals as goal
 
@@ -23,7 +23,7 @@ bounds-piece-at g c =
     let kept = c.loop-i.invariant.kept in
     let bs = c.args.places.now.items in
     let j = c.index-body.result.now in
-    let at : slice_get bs c.loop-i.i ≡ Some j = read_front bs kept.0 c.loop-i.i j (omega (arith, c.loop-i-test.true, c.len-to.ensures, c.args.places.now.ok.0)) (c.index-body.ensures ∙ ap (λ (xs : List ℕ). get_or xs c.loop-i.i j) kept.1) in
+    let at : slice_get bs c.loop-i.i ≡ Some j = read_front bs kept.0 c.loop-i.i j (before_end bs c.loop-i.i _ _ c.loop-i-test.true c.len-to.ensures c.args.places.now.ok.0) (c.index-body.ensures ∙ ap (λ (xs : List ℕ). get_or xs c.loop-i.i j) kept.1) in
     let r = c.requires.fits in
     let start = subst (λ (t : Bool). Keeps v r.0 r.1 c.args.piece.now c.args.accs.now r.2 r.3 (r.4 ++ group t c.args.rec.now (drop c.args.from bs))) c.if-whole.false r.6 in
     let k = kept.3 r.0 r.1 r.2 r.3 r.4 start in
@@ -36,7 +36,7 @@ opens-requires g c =
     let kept = c.loop-i.invariant.kept in
     let bs = c.args.places.now.items in
     let j = c.index-body.result.now in
-    let at : slice_get bs c.loop-i.i ≡ Some j = read_front bs kept.0 c.loop-i.i j (omega (arith, c.loop-i-test.true, c.len-to.ensures, c.args.places.now.ok.0)) (c.index-body.ensures ∙ ap (λ (xs : List ℕ). get_or xs c.loop-i.i j) kept.1) in
+    let at : slice_get bs c.loop-i.i ≡ Some j = read_front bs kept.0 c.loop-i.i j (before_end bs c.loop-i.i _ _ c.loop-i-test.true c.len-to.ensures c.args.places.now.ok.0) (c.index-body.ensures ∙ ap (λ (xs : List ℕ). get_or xs c.loop-i.i j) kept.1) in
     let r = c.requires.fits in
     let start = subst (λ (t : Bool). Keeps v r.0 r.1 c.args.piece.now c.args.accs.now r.2 r.3 (r.4 ++ group t c.args.rec.now (drop c.args.from bs))) c.if-whole.false r.6 in
     let k = kept.3 r.0 r.1 r.2 r.3 r.4 start in
@@ -49,7 +49,7 @@ bounds-accs-at g c =
     let kept = c.loop-i.invariant.kept in
     let bs = c.args.places.now.items in
     let j = c.index-body.result.now in
-    let at : slice_get bs c.loop-i.i ≡ Some j = read_front bs kept.0 c.loop-i.i j (omega (arith, c.loop-i-test.true, c.len-to.ensures, c.args.places.now.ok.0)) (c.index-body.ensures ∙ ap (λ (xs : List ℕ). get_or xs c.loop-i.i j) kept.1) in
+    let at : slice_get bs c.loop-i.i ≡ Some j = read_front bs kept.0 c.loop-i.i j (before_end bs c.loop-i.i _ _ c.loop-i-test.true c.len-to.ensures c.args.places.now.ok.0) (c.index-body.ensures ∙ ap (λ (xs : List ℕ). get_or xs c.loop-i.i j) kept.1) in
     let r = c.requires.fits in
     let start = subst (λ (t : Bool). Keeps v r.0 r.1 c.args.piece.now c.args.accs.now r.2 r.3 (r.4 ++ group t c.args.rec.now (drop c.args.from bs))) c.if-whole.false r.6 in
     let k = kept.3 r.0 r.1 r.2 r.3 r.4 start in
@@ -62,7 +62,7 @@ offset_bounds-accs-at g c =
     let kept = c.loop-i.invariant.kept in
     let bs = c.args.places.now.items in
     let j = c.index-body.result.now in
-    let at : slice_get bs c.loop-i.i ≡ Some j = read_front bs kept.0 c.loop-i.i j (omega (arith, c.loop-i-test.true, c.len-to.ensures, c.args.places.now.ok.0)) (c.index-body.ensures ∙ ap (λ (xs : List ℕ). get_or xs c.loop-i.i j) kept.1) in
+    let at : slice_get bs c.loop-i.i ≡ Some j = read_front bs kept.0 c.loop-i.i j (before_end bs c.loop-i.i _ _ c.loop-i-test.true c.len-to.ensures c.args.places.now.ok.0) (c.index-body.ensures ∙ ap (λ (xs : List ℕ). get_or xs c.loop-i.i j) kept.1) in
     let r = c.requires.fits in
     let start = subst (λ (t : Bool). Keeps v r.0 r.1 c.args.piece.now c.args.accs.now r.2 r.3 (r.4 ++ group t c.args.rec.now (drop c.args.from bs))) c.if-whole.false r.6 in
     let k = kept.3 r.0 r.1 r.2 r.3 r.4 start in
@@ -76,7 +76,7 @@ bounds-piece-at-else-opens g c =
     let kept = c.loop-i.invariant.kept in
     let bs = c.args.places.now.items in
     let j = c.index-body.result.now in
-    let at : slice_get bs c.loop-i.i ≡ Some j = read_front bs kept.0 c.loop-i.i j (omega (arith, c.loop-i-test.true, c.len-to.ensures, c.args.places.now.ok.0)) (c.index-body.ensures ∙ ap (λ (xs : List ℕ). get_or xs c.loop-i.i j) kept.1) in
+    let at : slice_get bs c.loop-i.i ≡ Some j = read_front bs kept.0 c.loop-i.i j (before_end bs c.loop-i.i _ _ c.loop-i-test.true c.len-to.ensures c.args.places.now.ok.0) (c.index-body.ensures ∙ ap (λ (xs : List ℕ). get_or xs c.loop-i.i j) kept.1) in
     let r = c.requires.fits in
     let start = subst (λ (t : Bool). Keeps v r.0 r.1 c.args.piece.now c.args.accs.now r.2 r.3 (r.4 ++ group t c.args.rec.now (drop c.args.from bs))) c.if-whole.false r.6 in
     let k = kept.3 r.0 r.1 r.2 r.3 r.4 start in
@@ -89,7 +89,7 @@ far-requires-clause-not_empty g c =
     let kept = c.loop-i.invariant.kept in
     let bs = c.args.places.now.items in
     let j = c.index-body.result.now in
-    let at : slice_get bs c.loop-i.i ≡ Some j = read_front bs kept.0 c.loop-i.i j (omega (arith, c.loop-i-test.true, c.len-to.ensures, c.args.places.now.ok.0)) (c.index-body.ensures ∙ ap (λ (xs : List ℕ). get_or xs c.loop-i.i j) kept.1) in
+    let at : slice_get bs c.loop-i.i ≡ Some j = read_front bs kept.0 c.loop-i.i j (before_end bs c.loop-i.i _ _ c.loop-i-test.true c.len-to.ensures c.args.places.now.ok.0) (c.index-body.ensures ∙ ap (λ (xs : List ℕ). get_or xs c.loop-i.i j) kept.1) in
     let r = c.requires.fits in
     let start = subst (λ (t : Bool). Keeps v r.0 r.1 c.args.piece.now c.args.accs.now r.2 r.3 (r.4 ++ group t c.args.rec.now (drop c.args.from bs))) c.if-whole.false r.6 in
     let k = kept.3 r.0 r.1 r.2 r.3 r.4 start in
@@ -102,7 +102,7 @@ far-requires-clause-room g c =
     let kept = c.loop-i.invariant.kept in
     let bs = c.args.places.now.items in
     let j = c.index-body.result.now in
-    let at : slice_get bs c.loop-i.i ≡ Some j = read_front bs kept.0 c.loop-i.i j (omega (arith, c.loop-i-test.true, c.len-to.ensures, c.args.places.now.ok.0)) (c.index-body.ensures ∙ ap (λ (xs : List ℕ). get_or xs c.loop-i.i j) kept.1) in
+    let at : slice_get bs c.loop-i.i ≡ Some j = read_front bs kept.0 c.loop-i.i j (before_end bs c.loop-i.i _ _ c.loop-i-test.true c.len-to.ensures c.args.places.now.ok.0) (c.index-body.ensures ∙ ap (λ (xs : List ℕ). get_or xs c.loop-i.i j) kept.1) in
     let r = c.requires.fits in
     let start = subst (λ (t : Bool). Keeps v r.0 r.1 c.args.piece.now c.args.accs.now r.2 r.3 (r.4 ++ group t c.args.rec.now (drop c.args.from bs))) c.if-whole.false r.6 in
     let k = kept.3 r.0 r.1 r.2 r.3 r.4 start in
@@ -118,7 +118,7 @@ loop-i-preserved g c =
     let kept = c.loop-i.invariant.kept in
     let bs = c.args.places.now.items in
     let j = c.index-body.result.now in
-    let at : slice_get bs c.loop-i.i ≡ Some j = read_front bs kept.0 c.loop-i.i j (omega (arith, c.loop-i-test.true, c.len-to.ensures, c.args.places.now.ok.0)) (c.index-body.ensures ∙ ap (λ (xs : List ℕ). get_or xs c.loop-i.i j) kept.1) in
+    let at : slice_get bs c.loop-i.i ≡ Some j = read_front bs kept.0 c.loop-i.i j (before_end bs c.loop-i.i _ _ c.loop-i-test.true c.len-to.ensures c.args.places.now.ok.0) (c.index-body.ensures ∙ ap (λ (xs : List ℕ). get_or xs c.loop-i.i j) kept.1) in
     let r = c.requires.fits in
     let start = subst (λ (t : Bool). Keeps v r.0 r.1 c.args.piece.now c.args.accs.now r.2 r.3 (r.4 ++ group t c.args.rec.now (drop c.args.from bs))) c.if-whole.false r.6 in
     let k = kept.3 r.0 r.1 r.2 r.3 r.4 start in

@@ -78,3 +78,9 @@ returns-clause-runs g c = λ w me start stands good own first root r.
     let v : VisitOf g.row.V-Acc.Denot = meaning g.V.Visit.zero_of g.V.Visit.adds g.V.Visit.opens_by g.V.Acc.Seen.seen_of c.args.visit.now in
     let none : c.loop-to.to ≡ 0 = omega arith in
     subst (λ (n : ℕ). Runs v w me start c.args.piece.now c.loop-to.accs c.loop-to.tally c.loop-to.asks (group false c.args.root (places_to n)) (pairs_in w (all_listed c.loop-to.held.items))) none (c.loop-to.invariant.runs w me start stands good own first root r)
+
+pub returns-in_err-places-clause-extends : goal.returns-in_err-places-clause-extends
+returns-in_err-places-clause-extends g c = c.loop-to.invariant.extends
+
+pub returns-clause-extends : goal.returns-clause-extends
+returns-clause-extends g c = c.loop-to.invariant.extends

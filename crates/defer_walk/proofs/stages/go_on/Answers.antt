@@ -5,6 +5,8 @@ use Rattle.defer_walk.specs.Turning.{Runs, AreReady}
 use Rattle.defer_walk.proofs.Blocks.{always_ok}
 use Rattle.defer_walk.proofs.Descents.{runs_same}
 use Rattle.defer_walk.proofs.Advances.{none_left}
+use Rattle.defer_walk.specs.Asked.{Extends}
+use Rattle.defer_walk.proofs.Slots.{extends_same}
 use Rattle.defer_walk.proofs.stages.go_on.Goals.{in-Some+in_ok-begin, in_default}
 use Rattle.defer_walk.proofs.stages.go_on.Goals as goal
 
@@ -93,3 +95,35 @@ returns-clause-runs g c = always_ok c.count_held-2.result _ (λ w me start stand
           runs_same v w me start c.args.piece.now c.args.accs.now c.match-root.accs c.args.tally.now c.match-root.tally c.args.asks.now c.match-root.asks (pairs_in w (roots n)) [] (pairs_in w (all_listed c.args.held.now.items)) (pairs_in w (all_listed c.match-root.held.items))
           m.accs-is m.tally-is m.asks-is (sym (ap (pairs_in w) gone)) (ap (λ h. pairs_in w (all_listed h.items)) m.held-is) runs
     ])
+
+pub begin-requires-clause-fits : goal.begin-requires-clause-fits
+begin-requires-clause-fits g c κs within =
+    let v : VisitOf g.row.V-Acc.Denot = meaning g.V.Visit.zero_of g.V.Visit.adds g.V.Visit.opens_by g.V.Acc.Seen.seen_of c.args.visit.now in
+    let q = c.requires.fits in
+    let w = q.0 in
+    let me = q.1 in
+    let start = q.2 in
+    let stands = q.3 in
+    let good = q.4 in
+    let own = q.5 in
+    let r = q.6 in
+    let stage = q.7 in
+    let n = length c.args.piece.now in
+    let at = c.if-advanced.false in
+    let runs = subst (λ (t : Bool). Runs v w me start c.args.piece.now c.args.accs.now c.args.tally.now c.args.asks.now (pairs_in w (left_by t n c.args.waits.now.items)) (pairs_in w (all_listed c.args.held.now.items))) at r in
+    (w, me, start, stands, good, own, runs, stage ∙ at, sym (c.root.ensures.value w me stands) ∙ c.in-Some.is)
+
+pub returns-in_err-resume-clause-extends : goal.returns-in_err-resume-clause-extends
+returns-in_err-resume-clause-extends g c = c.in_err-resume.ensures.extends
+
+pub returns-then-advanced-clause-extends : goal.returns-then-advanced-clause-extends
+returns-then-advanced-clause-extends g c = c.in_ok-resume.ensures.extends
+
+pub returns-in_err-begin-clause-extends : goal.returns-in_err-begin-clause-extends
+returns-in_err-begin-clause-extends g c = c.in_err-begin.ensures.extends
+
+pub returns-clause-extends : goal.returns-clause-extends
+returns-clause-extends g c = elim c.match-root.branch [
+  | in-Some+in_ok-begin m ↦ subst (Extends c.args.asks.now) (sym m.asks-is) m.in_ok-begin.ensures.extends
+  | in_default m ↦ subst (Extends c.args.asks.now) (sym m.asks-is) (extends_same c.args.asks.now)
+]

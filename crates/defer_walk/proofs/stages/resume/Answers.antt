@@ -7,7 +7,7 @@ use Rattle.defer_walk.specs.Asked.{stored_at}
 use Rattle.defer_walk.specs.Grouping.{by_children, listed_as, listed_of, all_listed}
 use Rattle.defer_walk.specs.Standing.{VisitOf, meaning, pairs_in, Waits}
 use Rattle.defer_walk.specs.Turning.{Runs}
-use Rattle.defer_walk.proofs.Slots.{extends_trans}
+use Rattle.defer_walk.proofs.Slots.{extends_trans, extends_same}
 use Rattle.defer_walk.proofs.Advances.{held_snoc, waits_of, was_awake, still_waits, runs_still, all_absent, more_left, some_items, no_items}
 use Rattle.defer_walk.proofs.stages.resume.Goals as goal
 
@@ -207,3 +207,18 @@ returns-clause-runs g c = λ w me start stands good own late same waited r.
     let v : VisitOf g.row.V-Acc.Denot = meaning g.V.Visit.zero_of g.V.Visit.adds g.V.Visit.opens_by g.V.Acc.Seen.seen_of c.args.visit.now in
     let e : c.loop-waits_here.waits.items ≡ [] = search rules in
     subst (λ (hs : List Held). Runs v w me start c.args.piece.now c.loop-waits_here.accs c.loop-waits_here.tally c.loop-waits_here.asks (pairs_in w (all_listed hs)) (pairs_in w (all_listed c.loop-waits_here.held.items))) e (c.loop-waits_here.invariant.runs w me start stands good own late same waited r)
+
+pub returns-in_err-push-in-None-clause-extends : goal.returns-in_err-push-in-None-clause-extends
+returns-in_err-push-in-None-clause-extends g c = c.loop-waits_here.invariant.extends
+
+pub returns-in_err-wake-in-Some-answer-clause-extends : goal.returns-in_err-wake-in-Some-answer-clause-extends
+returns-in_err-wake-in-Some-answer-clause-extends g c = c.loop-waits_here.invariant.extends
+
+pub returns-in_err-extend_from_slice-in-Some-answer-clause-extends : goal.returns-in_err-extend_from_slice-in-Some-answer-clause-extends
+returns-in_err-extend_from_slice-in-Some-answer-clause-extends g c = c.loop-waits_here.invariant.extends
+
+pub returns-clause-extends : goal.returns-clause-extends
+returns-clause-extends g c = c.loop-waits_here.invariant.extends
+
+pub loop-waits_here-init : goal.loop-waits_here-init
+loop-waits_here-init g c = record { runs = λ w me start stands good own late same waited r. r; prefix = ([], sym (append-nil c.args.waits.now.items)); extends = extends_same c.args.asks.now }

@@ -1,4 +1,5 @@
-use Rattle.std.proofs.Common.{rules, arith, ◌≡◌, ◌∙◌, ap, length, refl}
+use Rattle.std.proofs.Common.{rules, arith, ◌≡◌, ◌∙◌, List, ap, sym, length, refl, true, false}
+use Rattle.defer_walk.specs.declared.held.Held.{Held}
 use Rattle.defer_walk.specs.Grouping.{all_listed}
 use Rattle.defer_walk.specs.Tallies.{TallyValue}
 use Rattle.defer_walk.specs.Standing.{VisitOf, meaning}
@@ -21,3 +22,10 @@ returns-clause-stands g c = λ w good fits.
       cells = ap (λ (t : TallyValue). t.cells) c.new-3.ensures.value;
     })
     refl
+
+pub invariant_of-result : goal.invariant_of-result
+invariant_of-result g c = (
+  omega arith,
+  (λ e. sym (ap (λ (hs : List Held). length (all_listed hs)) c.new.ensures.items)),
+  (λ e. absurd (let f : false ≡ true = e in cc)),
+)
