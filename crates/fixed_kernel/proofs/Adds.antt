@@ -14,10 +14,12 @@ after_pull a by m = record {
   az = a.az +ℤ slice_index_or by 2 (pos 0);
 }
 
+-- a cell's pull and mass, added, leave what its term adds
 pub far_adds : (second s : Bool) (eps e m : ℕ) (b : BodyValue) (c : CellValue) (a r : Acc3Value) (by : List ℤ) → s ≡ second → e ≡ eps → m ≡ c.mass → by ≡ components (pull_far s e b c) → r ≡ after_pull a by m → r ≡ gravity_adds second eps b a (Far c)
 unfolding term_pull
 far_adds second s eps e m b c a r by order soft mass pulled after = rw (after, pulled, mass, order, soft) refl
 
+-- another body's pull and mass, added, leave what its term adds
 pub near_adds : (second : Bool) (eps e m : ℕ) (b o : BodyValue) (a r : Acc3Value) (p q : List ℕ) (by : List ℤ) → e ≡ eps → m ≡ o.mass → p ≡ coordinates (place b) → q ≡ coordinates (place o) → by ≡ components (pull e (point_at p) (point_at q) m) → r ≡ after_pull a by m → r ≡ gravity_adds second eps b a (Near o)
 unfolding term_pull
 near_adds second eps e m b o a r p q by soft mass from at pulled after = rw (after, pulled, at, from, mass, soft) refl

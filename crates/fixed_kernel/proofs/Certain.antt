@@ -209,9 +209,11 @@ twos-room n i h q =
     let f : 0 < 2 ^ k = pow_pos k in
     omega arith
 
+-- a number with its last bit set is not 0
 pub or-one : (n : ℕ) → 0 < bit_or n 1
 or-one n = let c : 1 ≤ bit_or n 1 = le_or_r n 1 in omega arith
 
+-- how often a number may be doubled
 pub ruleset on_room = (fours-room, twos-room, or-one)
 
 -- both bounds have one quotient
@@ -253,6 +255,7 @@ component-is p c low high shift m by d above between e f =
     let q : low * d / 2 ^ shift ≡ m * d * 2 ^ 50 / by = quotient-between low high (2 ^ shift) m d by (pow_pos shift) above between.0 between.1 f in
     rw (q, e) refl
 
+-- the divisor of a pull is not 0
 pub divisor-above : (r : ℕ) → 0 < r → 0 < r * root (r * 2 ^ 20)
 divisor-above r h =
     let s : 1024 * 1 ≤ root (r * 2 ^ 20) = root-above r 1 (omega arith) in

@@ -37,6 +37,7 @@ reach-some : (n den : ℕ) → reach_of (suc n) den ≡ den * den * 2 ^ 58 / (su
 unfolding reach_of
 reach-some n den = let t : eqb (suc n) 0 ≡ false = ne_eqb _ _ (λ e. omega (arith, e)) in rw t refl
 
+-- the opening test by a distance is the one by its formula
 pub reach-test : (num den l d : ℕ) → l ≤ 21 → d ≤ 3 * 2 ^ 58 → ltb (reach_of num den / 2 ^ (2 * l)) d ≡ ltb (square (2 ^ (29 - l)) * square den) (square num * d)
 unfolding reach_of
 reach-test zero den l d h k =

@@ -4,3 +4,5 @@ pub mod Laws
 pub mod Tried
 pub mod Additions
 pub mod Between
+pub mod Softened
+pub mod Tables

@@ -1,8 +1,8 @@
 // Bounds of a pull: two whole numbers that it lies between, by a hint of an inverse root that is
 // tested by products.
 ghost use Rattle.std.specs.Prelude.{IfSome, ◌≡◌, ◌/◌, ◌≤◌, ◌<◌, ◌^◌, ◌*◌};
-ghost use Rattle.hot_model.specs.Kernel as kernel;
 ghost use Rattle.fixed_kernel.specs.Between.{IsBetween};
+ghost use Rattle.fixed_kernel.specs.Softened.{divisor_of};
 
 use crate::floats::hint_inverse_root;
 
@@ -23,7 +23,7 @@ pub struct Bounds {
 /// The high half of a product.
 #[tactic(auto, using(crate::proofs::Hints::on_product))]
 #[inline(always)]
-fn high_half(a: u64, b: u64) -> u64
+pub fn high_half(a: u64, b: u64) -> u64
     ensures { result ≡ a * b / 2 ^ 64 }
 {
     ((u128::from(a) * u128::from(b)) >> 64) as u64
@@ -32,7 +32,7 @@ fn high_half(a: u64, b: u64) -> u64
 /// How often a number may be made four times as large.
 #[tactic(auto, using(crate::proofs::Certain::on_room))]
 #[inline(always)]
-fn room_for_fours(n: u64) -> u32
+pub fn room_for_fours(n: u64) -> u32
     requires { 0 < n }
     ensures above { 2 ^ 62 ≤ n * 2 ^ (2 * result) }
     ensures fits { n * 2 ^ (2 * result) < 2 ^ 64 }
@@ -44,7 +44,7 @@ fn room_for_fours(n: u64) -> u32
 /// How often a number may be doubled.
 #[tactic(auto, using(crate::proofs::Certain::on_room))]
 #[inline(always)]
-fn room_for_twos(n: u64) -> u32
+pub fn room_for_twos(n: u64) -> u32
     ensures fits { n * 2 ^ result < 2 ^ 64 }
     ensures within { result < 64 }
 {
@@ -56,7 +56,7 @@ fn room_for_twos(n: u64) -> u32
 #[inline(always)]
 pub fn bound_pull(soft: u64, mass: u64) -> Option<Bounds>
     requires above { 0 < soft }
-    ensures { IfSome result (λ b. IsBetween b.low b.high b.shift mass (soft * kernel.root (soft * 2 ^ 20))) }
+    ensures { IfSome result (λ b. IsBetween b.low b.high b.shift mass (divisor_of soft)) }
 {
     let half = room_for_fours(soft);
     let lead = room_for_twos(mass);

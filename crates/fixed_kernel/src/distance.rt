@@ -1,5 +1,5 @@
 // Squared distances of places.
-ghost use Rattle.std.specs.Prelude.{◌≡◌, ◌≤◌, ◌<◌, ◌^◌, ◌*◌};
+ghost use Rattle.std.specs.Prelude.{◌≡◌, ◌≤◌, ◌<◌, ◌^◌, ◌+◌, ◌*◌};
 ghost use Rattle.hot_model.specs.Limits.{fine_bits};
 ghost use Rattle.hot_model.specs.Kernel as kernel;
 ghost use Rattle.hot_model.specs.Kernel.{point_at, InCube};
@@ -31,6 +31,19 @@ pub(crate) fn distance2(p: [u32; 3], c: [u32; 3]) -> u64
     gap2(p[0], c[0]) + gap2(p[1], c[1]) + gap2(p[2], c[2])
 }
 
+/// A squared distance with the square of the softening.
+#[tactic(auto, using(crate::proofs::Hints::on_soft))]
+#[inline(always)]
+pub(crate) fn softened(apart: u64, eps: Eps) -> u64
+    requires apart_in { apart ≤ 3 * 2 ^ 58 }
+    ensures value { result ≡ apart + kernel.square eps }
+    ensures above { 0 < result }
+    ensures within { result < 2 ^ 60 }
+{
+    let eps = u64::from(eps.get());
+    apart + eps * eps
+}
+
 /// The softened squared distance.
 #[tactic(auto, using(crate::proofs::Hints::on_soft))]
 #[inline(always)]
@@ -41,6 +54,5 @@ pub(crate) fn soft2(p: [u32; 3], c: [u32; 3], eps: Eps) -> u64
     ensures above { 0 < result }
     ensures within { result < 2 ^ 60 }
 {
-    let eps = u64::from(eps.get());
-    distance2(p, c) + eps * eps
+    softened(distance2(p, c), eps)
 }

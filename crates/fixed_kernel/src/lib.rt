@@ -6,11 +6,13 @@
 mod bounds;
 mod distance;
 mod floats;
+mod guesses;
 mod laws;
 mod opening;
 mod products;
 mod pulls;
 mod quads;
+mod quotients;
 mod ratio;
 mod roots;
 mod softening;

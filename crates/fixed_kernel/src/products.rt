@@ -1,11 +1,14 @@
 // The six numbers of a symmetric table, and the steps from a cell's second sums to its quadrupole.
-ghost use Rattle.std.specs.Prelude.{◌≡◌, ◌≤◌, ◌<◌, ◌^◌, ◌*◌, ◌-◌, ◌+ℤ◌, ◌-ℤ◌, ◌*ℤ◌, pos, nat_abs};
+ghost use Rattle.std.specs.Prelude.{◌≡◌, ◌≤◌, ◌<◌, ◌^◌, ◌*◌, ◌/◌, ◌+◌, ◌-◌};
+ghost use Rattle.std.specs.Prelude.{◌+ℤ◌, ◌-ℤ◌, ◌*ℤ◌, pos, nat_abs};
 ghost use Rattle.hot_model.specs.Limits.{fine_bits, max_all_mass};
 ghost use Rattle.hot_model.specs.Kernel.{vector_at, components};
 ghost use Rattle.hot_model.specs.Second as second;
 ghost use Rattle.hot_model.specs.Second.{AreSmall, IsSmall, most_heading};
 
 use crate::centre;
+use crate::guesses::Guess;
+use crate::quotients::trunc_by;
 use hot_model::CellRec;
 use std::marker::Model;
 
@@ -22,12 +25,20 @@ pub struct Products {
 
 impl Model for Products {
     ghost use Rattle.hot_model.specs.Values as values;
+    ghost use Rattle.fixed_kernel.specs.Tables.{products_of};
 
     ghost Value = { values.Products };
 
-    ghost view = { λ p. record { xx = p.xx; yy = p.yy; zz = p.zz; xy = p.xy; xz = p.xz; yz = p.yz } };
+    ghost view = { λ p. products_of p.xx p.yy p.zz p.xy p.xz p.yz };
 
-    ghost inverse = { λ v. record { xx = v.xx; yy = v.yy; zz = v.zz; xy = v.xy; xz = v.xz; yz = v.yz } };
+    ghost inverse = { λ v. record {
+      xx = v.xx;
+      yy = v.yy;
+      zz = v.zz;
+      xy = v.xy;
+      xz = v.xz;
+      yz = v.yz;
+    } };
 }
 
 /// The quotient without its fraction.
@@ -49,24 +60,39 @@ fn difference(more: u128, less: u128) -> i128
     more as i128 - less as i128
 }
 
-/// The sum of mass times two offsets from the centre.
+/// What a sum of mass times a coordinate is more than the mass times its centre.
+#[tactic(auto, using(crate::proofs::Hints::on_rest))]
+#[inline(always)]
+fn rest_of(mass: u64, c: u32, s: u128) -> u64
+    requires some { 0 < mass }
+    requires centred { c ≡ s / mass }
+    ensures value { s ≡ mass * c + result }
+    ensures within { result < mass }
+{
+    (s - u128::from(mass) * u128::from(c)) as u64
+}
+
+/// The sum of mass times two offsets from the centre, by what its sum for one axis is more than at
+/// the centre.
 #[tactic(auto, using(crate::proofs::Hints::on_spread), unfolding(hot_model::specs::Second::spread_along))]
+#[inline(always)]
 fn spread_along(mass: u64, c: u32, d: u32, s: u128, t: u128, q: u128) -> i128
     requires mass_in { mass ≤ max_all_mass }
-    requires c_in { c < 2 ^ fine_bits }
+    requires some { 0 < mass }
+    requires centred { c ≡ s / mass }
     requires d_in { d < 2 ^ fine_bits }
-    requires s_in { s ≤ 2 ^ 69 }
+    requires c_in { c < 2 ^ fine_bits }
     requires t_in { t ≤ 2 ^ 69 }
     requires q_in { q ≤ 2 ^ 98 }
     ensures value { result ≡ second.spread_along mass c d s t q }
 {
-    let c = u128::from(c);
-    let d = u128::from(d);
-    difference(q + u128::from(mass) * (c * d), c * t + d * s)
+    let rest = rest_of(mass, c, s);
+    difference(q, u128::from(c) * t + u128::from(d) * u128::from(rest))
 }
 
 /// The sums of mass times two offsets from the centre, for each two axes, of a cell that is not
 /// empty.
+#[inline(always)]
 pub fn spread(c: &CellRec) -> Products
     requires not_empty { 0 < c.now.count }
     ensures value { result ≡ second.spread c.now }
@@ -98,12 +124,14 @@ pub fn less(a: i128, by: i128) -> i128
     requires a_in { nat_abs a ≤ 2 ^ 104 }
     requires by_in { nat_abs by ≤ 2 ^ 104 }
     ensures value { result ≡ a -ℤ by }
+    ensures within { nat_abs result ≤ 2 ^ 105 }
 {
     a - by
 }
 
 /// Three times a number of the diagonal, less the trace.
 #[tactic(auto, unfolding(hot_model::specs::Second::diagonal))]
+#[inline(always)]
 fn diagonal(p: Products, a: i128) -> i128
     requires small { AreSmall (2 ^ 98) p }
     requires a_in { nat_abs a ≤ 2 ^ 98 }
@@ -114,6 +142,7 @@ fn diagonal(p: Products, a: i128) -> i128
 
 /// Three times each number, less the trace on the diagonal.
 #[tactic(auto, unfolding(hot_model::specs::Second::traceless))]
+#[inline(always)]
 pub fn traceless(p: Products) -> Products
     requires small { AreSmall (2 ^ 98) p }
     ensures value { result ≡ second.traceless p }
@@ -133,33 +162,46 @@ pub fn traceless(p: Products) -> Products
 
 /// A number times 2^20 by the softened squared distance.
 #[tactic(auto, unfolding(hot_model::specs::Second::scaled_along))]
-fn scaled_along(r2: u64, t: i128) -> i128
+#[inline(always)]
+fn scaled_along(r2: u64, of: Guess, t: i128) -> i128
     requires small { nat_abs t ≤ 2 ^ 100 }
     requires above { 0 < r2 }
     ensures value { result ≡ second.scaled_along r2 t }
 {
-    trunc(t * (1 << 20), r2)
+    trunc_by(t * (1 << 20), r2, of)
 }
 
 /// Each of the numbers times 2^20 by the softened squared distance.
 #[tactic(auto, unfolding(hot_model::specs::Second::scaled))]
-pub fn scaled(r2: u64, t: Products) -> Products
+#[inline(always)]
+pub fn scaled(r2: u64, of: Guess, t: Products) -> Products
     requires small { AreSmall (2 ^ 100) t }
     requires above { 0 < r2 }
     ensures value { result ≡ second.scaled r2 t }
 {
     Products {
-        xx: scaled_along(r2, t.xx),
-        yy: scaled_along(r2, t.yy),
-        zz: scaled_along(r2, t.zz),
-        xy: scaled_along(r2, t.xy),
-        xz: scaled_along(r2, t.xz),
-        yz: scaled_along(r2, t.yz),
+        xx: scaled_along(r2, of, t.xx),
+        yy: scaled_along(r2, of, t.yy),
+        zz: scaled_along(r2, of, t.zz),
+        xy: scaled_along(r2, of, t.xy),
+        xz: scaled_along(r2, of, t.xz),
+        yz: scaled_along(r2, of, t.yz),
     }
 }
 
+/// A number below 2^63 times a component of a direction, in one multiplication.
+#[inline(always)]
+fn short_product(a: i128, n: i128) -> i128
+    requires a_in { nat_abs a ≤ 2 ^ 62 }
+    requires n_in { nat_abs n ≤ most_heading }
+    ensures value { result ≡ a *ℤ n }
+    ensures within { nat_abs result ≤ 2 ^ 82 }
+{
+    i128::from(a as i64) * i128::from(n as i64)
+}
+
 /// A number times a component of a direction.
-#[inline]
+#[inline(always)]
 fn product(a: i128, n: i128) -> i128
     requires a_in { nat_abs a ≤ 2 ^ 84 }
     requires n_in { nat_abs n ≤ most_heading }
@@ -183,7 +225,7 @@ fn sum3(a: i128, b: i128, c: i128) -> i128
 
 /// The sum of the products of three numbers with three.
 #[tactic(auto, unfolding(hot_model::specs::Second::dot3))]
-#[inline]
+#[inline(always)]
 pub fn dot3(a: i128, b: i128, c: i128, n: [i128; 3]) -> i128
     requires a_in { nat_abs a ≤ 2 ^ 84 }
     requires b_in { nat_abs b ≤ 2 ^ 84 }
@@ -195,16 +237,34 @@ pub fn dot3(a: i128, b: i128, c: i128, n: [i128; 3]) -> i128
     sum3(product(a, n[0]), product(b, n[1]), product(c, n[2]))
 }
 
+/// The sum of the products of three numbers below 2^63 with three.
+#[tactic(auto, unfolding(hot_model::specs::Second::dot3))]
+#[inline(always)]
+fn short_dot3(a: i128, b: i128, c: i128, n: [i128; 3]) -> i128
+    requires a_in { nat_abs a ≤ 2 ^ 62 }
+    requires b_in { nat_abs b ≤ 2 ^ 62 }
+    requires c_in { nat_abs c ≤ 2 ^ 62 }
+    requires n_in { IsSmall most_heading (vector_at n) }
+    ensures value { result ≡ second.dot3 a b c (vector_at n) }
+{
+    sum3(
+        short_product(a, n[0]),
+        short_product(b, n[1]),
+        short_product(c, n[2]),
+    )
+}
+
 /// Symmetric numbers times a direction.
 #[tactic(auto, unfolding(hot_model::specs::Second::times))]
+#[inline(always)]
 pub fn times(q: Products, n: [i128; 3]) -> [i128; 3]
-    requires small { AreSmall (2 ^ 84) q }
+    requires small { AreSmall (2 ^ 62) q }
     requires n_in { IsSmall most_heading (vector_at n) }
     ensures value { result ≡ components (second.times q (vector_at n)) }
 {
     [
-        dot3(q.xx, q.xy, q.xz, n),
-        dot3(q.xy, q.yy, q.yz, n),
-        dot3(q.xz, q.yz, q.zz, n),
+        short_dot3(q.xx, q.xy, q.xz, n),
+        short_dot3(q.xy, q.yy, q.yz, n),
+        short_dot3(q.xz, q.yz, q.zz, n),
     ]
 }

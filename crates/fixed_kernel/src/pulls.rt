@@ -4,6 +4,7 @@ ghost use Rattle.std.specs.Prelude.{IfSome, IsTrue, ◌↔◌, ◌-◌, ◌≡�
 ghost use Rattle.hot_model.specs.Limits.{fine_bits, max_all_mass};
 ghost use Rattle.hot_model.specs.Kernel as kernel;
 ghost use Rattle.hot_model.specs.Kernel.{point_at, components, InCube, IsPullBy};
+ghost use Rattle.fixed_kernel.specs.Softened.{divisor_of, softened_pull, point};
 ghost use Rattle.fixed_kernel.specs.Tried.{MayTry};
 
 use crate::Eps;
@@ -132,7 +133,7 @@ fn pull_by(p: [u32; 3], c: [u32; 3], mass: u64, by: u128, hints: PullHints) -> [
 fn divisor(soft: u64, hint: u64) -> u128
     requires above { 0 < soft }
     requires within { soft < 2 ^ 60 }
-    ensures value { result ≡ soft * kernel.root (soft * 2 ^ 20) }
+    ensures value { result ≡ divisor_of soft }
     ensures above { 0 < result }
     ensures within { result < 2 ^ 100 }
 {
@@ -146,7 +147,7 @@ fn certain_pull(p: [u32; 3], c: [u32; 3], mass: u64, soft: u64) -> Option<[i128;
     requires p_in { InCube p }
     requires c_in { InCube c }
     requires above { 0 < soft }
-    ensures { IfSome result (λ r. r ≡ components (kernel.pull_over (soft * kernel.root (soft * 2 ^ 20)) (point_at p) (point_at c) mass)) }
+    ensures { IfSome result (λ r. r ≡ softened_pull soft (point_at p) (point_at c) mass) }
 {
     let of = bound_pull(soft, mass)?;
     let dx = u64::from(p[0].abs_diff(c[0]));
@@ -188,7 +189,7 @@ fn settled_pull(
     requires mass_in { mass ≤ max_all_mass }
     requires above { 0 < soft }
     requires within { soft < 2 ^ 60 }
-    ensures { result ≡ components (kernel.pull_over (soft * kernel.root (soft * 2 ^ 20)) (record { x = x; y = y; z = z }) (record { x = at_x; y = at_y; z = at_z }) mass) }
+    ensures { result ≡ softened_pull soft (point x y z) (point at_x at_y at_z) mass }
 {
     if x == at_x && y == at_y && z == at_z {
         return [0, 0, 0];
@@ -217,11 +218,32 @@ fn pull_at(p: [u32; 3], c: [u32; 3], mass: u64, soft: u64) -> [i128; 3]
     requires mass_in { mass ≤ max_all_mass }
     requires above { 0 < soft }
     requires within { soft < 2 ^ 60 }
-    ensures { result ≡ components (kernel.pull_over (soft * kernel.root (soft * 2 ^ 20)) (point_at p) (point_at c) mass) }
+    ensures { result ≡ softened_pull soft (point_at p) (point_at c) mass }
 {
     match certain_pull(p, c, mass, soft) {
         Some(pull) => pull,
         None => settled_pull(p[0], p[1], p[2], c[0], c[1], c[2], mass, soft),
+    }
+}
+
+/// The pull of a mass, where the softened squared distance is known.
+#[tactic(auto, using(crate::proofs::Hints::on_far))]
+#[inline(always)]
+pub(crate) fn pull_softened(p: [u32; 3], c: [u32; 3], mass: u64, soft: u64, eps: Eps) -> [i128; 3]
+    requires p_in { InCube p }
+    requires c_in { InCube c }
+    requires mass_in { mass ≤ max_all_mass }
+    requires softened { soft ≡ kernel.soft2 eps (point_at p) (point_at c) }
+    requires above { 0 < soft }
+    requires within { soft < 2 ^ 60 }
+    ensures value { result ≡ components (kernel.pull eps (point_at p) (point_at c) mass) }
+    ensures within { IsPullBy mass result }
+{
+    let _at_least_one = eps.get();
+    if mass < soft >> 40 {
+        [0, 0, 0]
+    } else {
+        pull_at(p, c, mass, soft)
     }
 }
 
@@ -232,7 +254,6 @@ fn pull_at(p: [u32; 3], c: [u32; 3], mass: u64, soft: u64) -> [i128; 3]
 /// Places are in fine units, each coordinate below 2^29, the mass is at most 2^40, and the pull is
 /// in units of 2^-40 of mass over squared fine distance. It is 0 for the mass 0 and for the place
 /// itself. It takes no memory.
-#[tactic(auto, using(crate::proofs::Hints::on_far))]
 #[inline(always)]
 pub fn pull(p: [u32; 3], c: [u32; 3], mass: u64, eps: Eps) -> [i128; 3]
     requires p_in { InCube p }
@@ -241,11 +262,5 @@ pub fn pull(p: [u32; 3], c: [u32; 3], mass: u64, eps: Eps) -> [i128; 3]
     ensures value { result ≡ components (kernel.pull eps (point_at p) (point_at c) mass) }
     ensures within { IsPullBy mass result }
 {
-    let _at_least_one = eps.get();
-    let soft = soft2(p, c, eps);
-    if mass < soft >> 40 {
-        [0, 0, 0]
-    } else {
-        pull_at(p, c, mass, soft)
-    }
+    pull_softened(p, c, mass, soft2(p, c, eps), eps)
 }

@@ -1,4 +1,5 @@
-ghost use Rattle.std.specs.Prelude.{◌≡◌, ◌≤◌, ◌<◌, ◌↔◌, ◌+◌, ◌+ℤ◌, ◌*◌, ◌^◌, not, pos, slice_index_or, nat_abs, IsSome, IfSome, true, false};
+ghost use Rattle.std.specs.Prelude.{◌≡◌, ◌≤◌, ◌<◌, ◌↔◌, ◌+◌, ◌+ℤ◌, ◌*◌, ◌^◌};
+ghost use Rattle.std.specs.Prelude.{not, pos, slice_index_or, nat_abs, IsSome, IfSome, true, false};
 ghost use Rattle.hot_model.specs.Limits.{max_all_mass};
 ghost use Rattle.hot_model.specs.Kernel as kernel;
 ghost use Rattle.hot_model.specs.Kernel.{components, vector_at, IsPullBy};
@@ -7,8 +8,12 @@ ghost use Rattle.hot_model.specs.Trees as trees;
 ghost use Rattle.hot_model.specs.Forces.{gravity_adds, untouched};
 ghost use Rattle.hot_model.specs.Trees.{Near, Far};
 ghost use Rattle.fixed_kernel.specs.Additions.{gravity_sees, gravity_swaps};
+ghost use Rattle.fixed_kernel.specs.Visit.{visit_of, after_term};
 
-use crate::{Eps, Ratio, accepts, centre, pull, quad};
+use crate::distance::{distance2, softened};
+use crate::pulls::pull_softened;
+use crate::quads::quad_softened;
+use crate::{Eps, Ratio, accepts, centre, pull};
 use hot_model::{Acc3, Body, CellRec, Seen, Visit};
 use std::alloc::{AllocError, Global};
 use std::marker::Model;
@@ -40,7 +45,7 @@ impl ForceVisit {
     /// The visit with an opening ratio and a softening, of first order: a cell acts by its mass
     /// alone. It takes no memory.
     pub fn new(ratio: Ratio, eps: Eps) -> Self
-        ensures value { result ≡ record { ratio = ratio; eps = eps; second = false } }
+        ensures value { result ≡ visit_of ratio eps false }
     {
         ForceVisit {
             ratio,
@@ -53,7 +58,7 @@ impl ForceVisit {
     /// ratio is above 1. It takes no memory.
     pub fn with_second(ratio: Ratio, eps: Eps) -> Option<Self>
         ensures within { IsSome result ↔ (ratio.num ≤ ratio.den) }
-        ensures value { IfSome result (λ v. v ≡ record { ratio = ratio; eps = eps; second = true }) }
+        ensures value { IfSome result (λ v. v ≡ visit_of ratio eps true) }
     {
         if ratio.num() <= ratio.den() {
             Some(ForceVisit {
@@ -90,6 +95,8 @@ fn sum(a: [i128; 3], b: [i128; 3]) -> [i128; 3]
 }
 
 /// The pull of a cell as one source, with its second moments or without.
+#[tactic(auto, using(crate::proofs::Hints::on_soft))]
+#[inline(always)]
 fn pull_far(second: bool, eps: Eps, b: &Body, c: &CellRec) -> [i128; 3]
     requires not_empty { 0 < c.now.count }
     ensures value { result ≡ components (trees.pull_far second eps b.now c.now) }
@@ -97,9 +104,12 @@ fn pull_far(second: bool, eps: Eps, b: &Body, c: &CellRec) -> [i128; 3]
 {
     let _at_least_one = eps.get();
     let place = [b.x, b.y, b.z];
-    let by = pull(place, centre(c), c.mass, eps);
+    let at = centre(c);
+    let apart = distance2(place, at);
+    let soft = softened(apart, eps);
+    let by = pull_softened(place, at, c.mass, soft, eps);
     if second {
-        sum(by, quad(place, c, eps))
+        sum(by, quad_softened(place, at, c, apart, soft, eps))
     } else {
         by
     }
@@ -163,7 +173,7 @@ impl Visit for ForceVisit {
         requires not_empty { 0 < c.now.count }
         requires room { acc.old.seen + c.now.mass ≤ max_all_mass }
         ensures never_refused { result ≡ Ok tt }
-        ensures value { acc.new ≡ gravity_adds self.now.second self.now.eps b.now acc.old (Far c.now) }
+        ensures value { acc.new ≡ after_term self.now b.now acc.old (Far c.now) }
     {
         let by = pull_far(self.second, self.eps, b, c);
         *acc = pulled(*acc, by, c.mass);
@@ -175,7 +185,7 @@ impl Visit for ForceVisit {
     fn near(&self, acc: &mut Acc3, b: &Body, other: &Body) -> Result<(), AllocError>
         requires room { acc.old.seen + other.now.mass ≤ max_all_mass }
         ensures never_refused { result ≡ Ok tt }
-        ensures value { acc.new ≡ gravity_adds self.now.second self.now.eps b.now acc.old (Near other.now) }
+        ensures value { acc.new ≡ after_term self.now b.now acc.old (Near other.now) }
     {
         let mass = u64::from(other.mass);
         let by = pull([b.x, b.y, b.z], [other.x, other.y, other.z], mass, self.eps);

@@ -1,4 +1,4 @@
-use Rattle.std.proofs.Common.{◌≡◌, ◌*◌, ◌≤◌, ◌^◌, ◌*ℤ◌, nat_abs, arith}
+use Rattle.std.proofs.Common.{◌*◌, ◌≤◌, ◌^◌, ◌*ℤ◌, nat_abs, arith}
 use Rattle.hot_model.proofs.Second.{abs-times}
 use Rattle.fixed_kernel.proofs.Signs.{times-stored}
 use Rattle.fixed_kernel.proofs.products.product.Goals as goal

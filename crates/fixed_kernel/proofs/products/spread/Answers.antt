@@ -1,4 +1,4 @@
-use Rattle.std.proofs.Common.{◌≡◌, ◌∙◌, ap, sym, rules}
+use Rattle.std.proofs.Common.{◌∙◌, ap, sym, rules}
 use mir.Syntax.{w128}
 use mir.Val.{SFits}
 use Rattle.hot_model.specs.Kernel.{centre, coordinates}
@@ -6,7 +6,7 @@ use Rattle.hot_model.specs.Values.{CellValue, cell_of}
 use Rattle.hot_model.specs.Second.{spread}
 use Rattle.hot_model.proofs.Corners.{sxx-in-cube, syy-in-cube, szz-in-cube, sxy-in-cube, sxz-in-cube, syz-in-cube}
 use Rattle.hot_model.proofs.Signed.{stored}
-use Rattle.fixed_kernel.proofs.Signs.{spread-is}
+use Rattle.fixed_kernel.proofs.Signs.{spread-is, centre-at-x, centre-at-y, centre-at-z, some-mass}
 use Rattle.fixed_kernel.proofs.products.spread.Goals as goal
 
 pub spread_along-requires-clause-q_in : goal.spread_along-requires-clause-q_in
@@ -61,3 +61,69 @@ returns c =
           (stored c.spread_along-6.result _ m c.spread_along-6.ensures.value)
           ∙ ap spread c.c.view_is;
     }
+
+pub spread_along-requires-clause-some : goal.spread_along-requires-clause-some
+spread_along-requires-clause-some c =
+    let i = c.c.inside in
+    some-mass (cell_of i.key i.count i.mass i.sx i.sy i.sz i.sxx i.syy i.szz i.sxy i.sxz i.syz) c.args.c.now c.c.view_is c.c.invariant.0 c.requires.not_empty
+
+pub spread_along-requires-clause-centred : goal.spread_along-requires-clause-centred
+spread_along-requires-clause-centred c =
+    let i = c.c.inside in
+    centre-at-x (cell_of i.key i.count i.mass i.sx i.sy i.sz i.sxx i.syy i.szz i.sxy i.sxz i.syz) c.centre.result
+    (c.centre.ensures.value ∙ ap (λ (v : CellValue). coordinates (centre v)) (sym c.c.view_is))
+
+pub spread_along-requires-2-clause-some : goal.spread_along-requires-2-clause-some
+spread_along-requires-2-clause-some c =
+    let i = c.c.inside in
+    some-mass (cell_of i.key i.count i.mass i.sx i.sy i.sz i.sxx i.syy i.szz i.sxy i.sxz i.syz) c.args.c.now c.c.view_is c.c.invariant.0 c.requires.not_empty
+
+pub spread_along-requires-2-clause-centred : goal.spread_along-requires-2-clause-centred
+spread_along-requires-2-clause-centred c =
+    let i = c.c.inside in
+    centre-at-y (cell_of i.key i.count i.mass i.sx i.sy i.sz i.sxx i.syy i.szz i.sxy i.sxz i.syz) c.centre.result
+    (c.centre.ensures.value ∙ ap (λ (v : CellValue). coordinates (centre v)) (sym c.c.view_is))
+
+pub spread_along-requires-3-clause-some : goal.spread_along-requires-3-clause-some
+spread_along-requires-3-clause-some c =
+    let i = c.c.inside in
+    some-mass (cell_of i.key i.count i.mass i.sx i.sy i.sz i.sxx i.syy i.szz i.sxy i.sxz i.syz) c.args.c.now c.c.view_is c.c.invariant.0 c.requires.not_empty
+
+pub spread_along-requires-3-clause-centred : goal.spread_along-requires-3-clause-centred
+spread_along-requires-3-clause-centred c =
+    let i = c.c.inside in
+    centre-at-z (cell_of i.key i.count i.mass i.sx i.sy i.sz i.sxx i.syy i.szz i.sxy i.sxz i.syz) c.centre.result
+    (c.centre.ensures.value ∙ ap (λ (v : CellValue). coordinates (centre v)) (sym c.c.view_is))
+
+pub spread_along-requires-4-clause-some : goal.spread_along-requires-4-clause-some
+spread_along-requires-4-clause-some c =
+    let i = c.c.inside in
+    some-mass (cell_of i.key i.count i.mass i.sx i.sy i.sz i.sxx i.syy i.szz i.sxy i.sxz i.syz) c.args.c.now c.c.view_is c.c.invariant.0 c.requires.not_empty
+
+pub spread_along-requires-4-clause-centred : goal.spread_along-requires-4-clause-centred
+spread_along-requires-4-clause-centred c =
+    let i = c.c.inside in
+    centre-at-x (cell_of i.key i.count i.mass i.sx i.sy i.sz i.sxx i.syy i.szz i.sxy i.sxz i.syz) c.centre.result
+    (c.centre.ensures.value ∙ ap (λ (v : CellValue). coordinates (centre v)) (sym c.c.view_is))
+
+pub spread_along-requires-5-clause-some : goal.spread_along-requires-5-clause-some
+spread_along-requires-5-clause-some c =
+    let i = c.c.inside in
+    some-mass (cell_of i.key i.count i.mass i.sx i.sy i.sz i.sxx i.syy i.szz i.sxy i.sxz i.syz) c.args.c.now c.c.view_is c.c.invariant.0 c.requires.not_empty
+
+pub spread_along-requires-5-clause-centred : goal.spread_along-requires-5-clause-centred
+spread_along-requires-5-clause-centred c =
+    let i = c.c.inside in
+    centre-at-x (cell_of i.key i.count i.mass i.sx i.sy i.sz i.sxx i.syy i.szz i.sxy i.sxz i.syz) c.centre.result
+    (c.centre.ensures.value ∙ ap (λ (v : CellValue). coordinates (centre v)) (sym c.c.view_is))
+
+pub spread_along-requires-6-clause-some : goal.spread_along-requires-6-clause-some
+spread_along-requires-6-clause-some c =
+    let i = c.c.inside in
+    some-mass (cell_of i.key i.count i.mass i.sx i.sy i.sz i.sxx i.syy i.szz i.sxy i.sxz i.syz) c.args.c.now c.c.view_is c.c.invariant.0 c.requires.not_empty
+
+pub spread_along-requires-6-clause-centred : goal.spread_along-requires-6-clause-centred
+spread_along-requires-6-clause-centred c =
+    let i = c.c.inside in
+    centre-at-y (cell_of i.key i.count i.mass i.sx i.sy i.sz i.sxx i.syy i.szz i.sxy i.sxz i.syz) c.centre.result
+    (c.centre.ensures.value ∙ ap (λ (v : CellValue). coordinates (centre v)) (sym c.c.view_is))

@@ -1,5 +1,4 @@
-use Rattle.std.proofs.Common.{ℤ, ◌≡◌, ◌^◌, ap, ◌∙◌}
-use mir.Syntax.{w128}
+use Rattle.std.proofs.Common.{ℤ, ◌^◌, ap, ◌∙◌}
 use Rattle.hot_model.specs.Second.{trunc}
 use Rattle.hot_model.proofs.Signed.{stored}
 use Rattle.fixed_kernel.proofs.Signs.{five-stored, five-small}
