@@ -83,6 +83,36 @@ def shares(count, parts):
     return [(low, high - low) for low, high in zip(bounds, bounds[1:]) if high > low]
 
 
+def drive(folder, driver, program, options, kept):
+    """What the drivers answer, one of them for each job, and whether one failed."""
+    rng, corpus_file, room = random.Random(options.seed), os.path.join(folder, "corpus"), os.path.join(folder, "room")
+    write_corpus(corpus_file, rng)
+    os.mkdir(room)
+    furnish(room, rng)
+
+    def run(share):
+        words = [driver, program, corpus_file, str(options.seed), *map(str, share), kept]
+        return subprocess.run(words, cwd=room, stdout=subprocess.PIPE, stdin=subprocess.DEVNULL, check=False)
+
+    parts = shares(options.inputs, options.jobs)
+    with ThreadPoolExecutor(len(parts)) as pool:
+        runs = list(pool.map(run, parts))
+    lines = [line for got in runs for line in got.stdout.decode().splitlines()]
+    return lines, any(got.returncode not in (0, 1) for got in runs)
+
+
+def tell(lines, options, kept):
+    """Tells of the cases that are wrong, and how many ended with which status; the number of those that are wrong."""
+    wrong, ended = [line for line in lines if line.startswith("wrong ")], Counter()
+    for line in wrong[:MOST_SHOWN]:
+        print(f"mutated: seed {options.seed}: {line[6:]}; its words and input are in {kept}", file=sys.stderr)
+    for status, number in (line.split() for line in lines if not line.startswith("wrong ")):
+        ended[int(status)] += int(number)
+    table = ", ".join(f"{number} with {status}" for status, number in sorted(ended.items()))
+    print(f"{options.inputs} mutated cases of seed {options.seed}: {table}; {len(wrong)} wrong", end="")
+    return len(wrong)
+
+
 def main():
     parser = argparse.ArgumentParser()
     parser.add_argument("--program")
@@ -94,37 +124,19 @@ def main():
     if options.unproved:
         return 0
     program = os.path.abspath(options.program) if options.program else built_program()
-    begin = time.monotonic()
+    begin, kept = time.monotonic(), tempfile.mkdtemp(prefix="hot-wrong-")
     with tempfile.TemporaryDirectory(prefix="hot-mutated-") as folder:
         driver = compiled(folder)
-        if not driver:
+        if driver:
+            lines, has_failed = drive(folder, driver, program, options, kept)
+            wrong = tell(lines, options, kept)
+            print(f", in {time.monotonic() - begin:.1f} seconds")
+        else:
             print("tools/check: there is no C compiler, so no mutated input was tried", file=sys.stderr)
-            return 0
-        rng, kept = random.Random(options.seed), tempfile.mkdtemp(prefix="hot-wrong-")
-        write_corpus(os.path.join(folder, "corpus"), rng)
-        room = os.path.join(folder, "room")
-        os.mkdir(room)
-        furnish(room, rng)
-
-        def drive(share):
-            words = [driver, program, os.path.join(folder, "corpus"), options.seed, *share, kept]
-            return subprocess.run([*map(str, words)], cwd=room, stdout=subprocess.PIPE, stdin=subprocess.DEVNULL, check=False)
-
-        parts = shares(options.inputs, options.jobs)
-        with ThreadPoolExecutor(len(parts)) as pool:
-            runs = list(pool.map(drive, parts))
-    lines = [line for got in runs for line in got.stdout.decode().splitlines()]
-    wrong = [line for line in lines if line.startswith("wrong ")]
-    for line in wrong[:MOST_SHOWN]:
-        print(f"mutated: seed {options.seed}: {line[6:]}; its words and input are in {kept}", file=sys.stderr)
+            wrong, has_failed = 0, False
     if not wrong:
         os.rmdir(kept)
-    ended = Counter()
-    for status, number in (line.split() for line in lines if not line.startswith("wrong ")):
-        ended[int(status)] += int(number)
-    table = ", ".join(f"{number} with {status}" for status, number in sorted(ended.items()))
-    print(f"{options.inputs} mutated cases of seed {options.seed}: {table}; {len(wrong)} wrong, in {time.monotonic() - begin:.1f} seconds")
-    return 1 if wrong or any(got.returncode not in (0, 1) for got in runs) else 0
+    return 1 if wrong or has_failed else 0
 
 
 if __name__ == "__main__":

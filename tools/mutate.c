@@ -326,43 +326,71 @@ static void read_call(Call *call, const Text *item) {
   }
 }
 
-int main(int count, char **words) {
-  if (count != 7) return 2;
+// What cases are made from, and what a run gets.
+typedef struct {
+  List calls, inputs, word_tokens, tokens;
+  const char *program, *kept;
+  int source, streams[3];
+} Bench;
+
+// Makes a case: words alone are mutated, both, or the input alone.
+static void make_case(const Bench *bench, Call *call, Text *input) {
+  const Text *chosen = pick(&bench->inputs);
+  size_t kind = below(6);
+  read_call(call, pick(&bench->calls));
+  input->length = chosen->length < MAX_INPUT ? chosen->length : MAX_INPUT;
+  memcpy(input->bytes, chosen->bytes, input->length);
+  for (size_t turns = kind == 0 ? 0 : 1 + below(below(3) ? 2 : 12); turns; turns--)
+    mutate_input(input, &bench->inputs, &bench->tokens);
+  for (size_t turns = kind > 1 ? 0 : 1 + below(3); turns; turns--) mutate_call(call, &bench->word_tokens);
+  spare(call);
+}
+
+// Runs a case, and gives its status; `why` is what is wrong with it, or NULL.
+static int try_case(Bench *bench, Call *call, const Text *input, const char **why) {
+  int are_texts = 1;
+  for (int k = 0; k < call->count; k++) are_texts &= is_text(call->words[k]);
+  for (int k = 1; k < 3; k++)
+    if (ftruncate(bench->streams[k], 0) || lseek(bench->streams[k], 0, SEEK_SET)) fail("truncate");
+  bench->streams[0] = open_input(input, bench->source);
+  int status = run(bench->program, call, bench->streams);
+  close(bench->streams[0]);
+  Text out = read_back(bench->streams[1]), err = read_back(bench->streams[2]);
+  *why = status == -SIGALRM ? "it hangs" : status < 0 ? strsignal(-status) : judge(status, &out, &err, are_texts);
+  free(out.bytes), free(err.bytes);
+  return status;
+}
+
+static Bench open_bench(char **words) {
   FILE *file = fopen(words[2], "rb");
   if (!file) fail(words[2]);
-  List calls = read_list(file), inputs = read_list(file), word_tokens = read_list(file), tokens = read_list(file);
+  Bench bench = {.program = words[1], .kept = words[6]};
+  bench.calls = read_list(file), bench.inputs = read_list(file);
+  bench.word_tokens = read_list(file), bench.tokens = read_list(file);
+  fclose(file);
+  bench.source = memfd_create("input", MFD_CLOEXEC);
+  bench.streams[1] = memfd_create("out", MFD_CLOEXEC), bench.streams[2] = memfd_create("err", MFD_CLOEXEC);
+  return bench;
+}
+
+int main(int count, char **words) {
+  if (count != 7) return 2;
+  Bench bench = open_bench(words);
   uint64_t seed = strtoull(words[3], NULL, 10);
   size_t first = strtoull(words[4], NULL, 10), number = strtoull(words[5], NULL, 10), ended[STATUSES] = {0}, told = 0;
-  int streams[3], source = memfd_create("input", MFD_CLOEXEC);
   struct rlimit no_core = {0, 0};
   sigset_t child;
   sigemptyset(&child), sigaddset(&child, SIGCHLD), sigprocmask(SIG_BLOCK, &child, NULL);
   setrlimit(RLIMIT_CORE, &no_core);
-  streams[1] = memfd_create("out", MFD_CLOEXEC), streams[2] = memfd_create("err", MFD_CLOEXEC);
   Call call;
   Text input = {room(MAX_INPUT), 0};
   for (size_t k = first; k < first + number && told < MOST_TOLD; k++) {
+    const char *why;
     state = seed * 0x2545f4914f6cdd1d + k * 0xd1342543de82ef95;
-    const Text *chosen = pick(&inputs);
-    size_t kind = below(6);  // words alone, both, or the input alone
-    read_call(&call, pick(&calls));
-    input.length = chosen->length < MAX_INPUT ? chosen->length : MAX_INPUT;
-    memcpy(input.bytes, chosen->bytes, input.length);
-    for (size_t turns = kind == 0 ? 0 : 1 + below(below(3) ? 2 : 12); turns; turns--) mutate_input(&input, &inputs, &tokens);
-    for (size_t turns = kind > 1 ? 0 : 1 + below(3); turns; turns--) mutate_call(&call, &word_tokens);
-    spare(&call);
-    int are_texts = 1;
-    for (int j = 0; j < call.count; j++) are_texts &= is_text(call.words[j]);
-    if (ftruncate(streams[1], 0) || ftruncate(streams[2], 0)) fail("truncate");
-    lseek(streams[1], 0, SEEK_SET), lseek(streams[2], 0, SEEK_SET);
-    streams[0] = open_input(&input, source);
-    int status = run(words[1], &call, streams);
-    close(streams[0]);
-    Text out = read_back(streams[1]), err = read_back(streams[2]);
-    const char *why = status == -SIGALRM ? "it hangs" : status < 0 ? strsignal(-status) : judge(status, &out, &err, are_texts);
+    make_case(&bench, &call, &input);
+    int status = try_case(&bench, &call, &input, &why);
     if (status >= 0) ended[status]++;
-    if (why) printf("wrong %zu status %d: %s\n", k, status, why), keep(words[6], k, &call, &input), told++;
-    free(out.bytes), free(err.bytes);
+    if (why) printf("wrong %zu status %d: %s\n", k, status, why), keep(bench.kept, k, &call, &input), told++;
   }
   for (int k = 0; k < STATUSES; k++)
     if (ended[k]) printf("%d %zu\n", k, ended[k]);
