@@ -171,7 +171,7 @@ def given(rng, name, value):
 def header_tokens(rng, columns, count, numbers):
     """The statements of a header in any order."""
     statements = [given(rng, name, value) for name, value in numbers.items()]
-    for name in {word(rng), word(rng), "parameter", "x", "redshift"}:
+    for name in dict.fromkeys([word(rng), word(rng), "parameter", "x", "redshift"]):
         if rng.random() < 0.3 and name not in numbers:
             statements.append(pick_statement(rng, name))
     statements.append(struct_tokens(rng, columns, count))
