@@ -46,11 +46,11 @@ the_lines : (mid : List ℕ) → lines_at (suc (length (inside mid))) no_fields 
 unfolding magnitude hexadecimal behind_exponent behind_mantissa decimal with_sign number behind_close blank_at past_blanks behind_text token_at next sign_at word_at new_name size_at type_at param_end parameter_at text_at value_at declaration_at with_field array_at item_at items_at line_at lines_at
 the_lines mid = refl
 
-at_bracket : (mid : List ℕ) → sign_at 91 (91 ∷ mid) ≡ Ok mid
+pub at_bracket : (mid : List ℕ) → sign_at 91 (91 ∷ mid) ≡ Ok mid
 unfolding magnitude hexadecimal behind_exponent behind_mantissa decimal with_sign number behind_close blank_at past_blanks behind_text token_at next sign_at word_at new_name size_at type_at param_end parameter_at text_at value_at declaration_at with_field array_at item_at items_at line_at lines_at
 at_bracket mid = refl
 
-at_end : (tail : List ℕ) → sign_at 59 (59 ∷ tail) ≡ Ok tail
+pub at_end : (tail : List ℕ) → sign_at 59 (59 ∷ tail) ≡ Ok tail
 unfolding magnitude hexadecimal behind_exponent behind_mantissa decimal with_sign number behind_close blank_at past_blanks behind_text token_at next sign_at word_at new_name size_at type_at param_end parameter_at text_at value_at declaration_at with_field array_at item_at items_at line_at lines_at
 at_end tail = refl
 
@@ -59,10 +59,10 @@ struct_made : (mid tail : List ℕ) (n : ℕ) → size_at mid ≡ Ok (Some n, 59
 unfolding struct_at
 struct_made mid tail n h = rw (at_brace mid, the_lines mid, at_bracket mid, h, at_end tail) refl
 
-abbrev lex_word : List ℕ → List ℕ → Lex
+abbrev pub lex_word : List ℕ → List ℕ → Lex
 lex_word w rest = record { lexeme = Word w; start = w ++ rest; rest = rest }
 
-abbrev h0 : Header
+abbrev pub h0 : Header
 h0 = nothing_given
 
 abbrev h1 : Header
@@ -107,11 +107,11 @@ step_3 : (mid tail : List ℕ) (n : ℕ) → size_at mid ≡ Ok (Some n, 59 ∷ 
 unfolding statement_at
 step_3 mid tail n h = rw (struct_made mid tail n h) refl
 
-one_more : (n : ℕ) (h t : Header) (bytes after : List ℕ) (l : Lex) → next bytes ≡ Ok l → is_end l.lexeme ≡ false → statement_at h l ≡ Ok (t, after) → statements_at (suc n) h bytes ≡ statements_at n t after
+pub one_more : (n : ℕ) (h t : Header) (bytes after : List ℕ) (l : Lex) → next bytes ≡ Ok l → is_end l.lexeme ≡ false → statement_at h l ≡ Ok (t, after) → statements_at (suc n) h bytes ≡ statements_at n t after
 unfolding statements_at
 one_more n h t bytes after l x isnt i = rw (x, isnt, i) refl
 
-no_more : (n : ℕ) (h : Header) → statements_at (suc n) h (10 ∷ []) ≡ Ok h
+pub no_more : (n : ℕ) (h : Header) → statements_at (suc n) h (10 ∷ []) ≡ Ok h
 unfolding statements_at magnitude hexadecimal behind_exponent behind_mantissa decimal with_sign number behind_close blank_at past_blanks behind_text token_at next sign_at word_at new_name size_at type_at param_end parameter_at text_at value_at declaration_at with_field array_at item_at items_at line_at lines_at
 no_more n h = refl
 
@@ -167,7 +167,7 @@ digit_is P d lo hi p0 p1 p2 p3 p4 p5 p6 p7 p8 p9 =
           ]
     ]
 
-abbrev AllAre : List ℕ → Type 0
+abbrev pub AllAre : List ℕ → Type 0
 AllAre ds = all_ascii_digits ds ≡ true
 
 run_digits : (ds more : List ℕ) → AllAre ds → prefix_len is_ascii_digit (ds ++ 93 ∷ more) ≡ length ds
@@ -223,13 +223,13 @@ digits_read d ds tail n lo hi e all lt v =
     let num : number (d ∷ ds ++ 93 ∷ tail) ≡ Some (Some (pos n), 93 ∷ tail) = digit_number d ds tail lo hi e ∙ rw read refl in
     rw (digit_next d (ds ++ 93 ∷ tail) lo hi, num, lt-ltb n (2 ^ 64) lt) (rw (close tail) refl)
 
-size_read : (ds tail : List ℕ) (n : ℕ) → 0 < length ds → AllAre ds → n < 2 ^ 64 → n ≡ digits_value 10 ds → size_at (ds ++ 93 ∷ tail) ≡ Ok (Some n, tail)
+pub size_read : (ds tail : List ℕ) (n : ℕ) → 0 < length ds → AllAre ds → n < 2 ^ 64 → n ≡ digits_value 10 ds → size_at (ds ++ 93 ∷ tail) ≡ Ok (Some n, tail)
 size_read [] tail n some e lt v = absurd (omega arith)
 size_read (d ∷ ds) tail n some e lt v =
     let p = tells_all_ascii_digits.parts d ds e in
     digits_read d ds tail n (omega (arith, p.0)) (omega (arith, p.0)) p.1 e lt v
 
-own : IsNumeralModel AllAre (digits_value 10)
+pub own : IsNumeralModel AllAre (digits_value 10)
 own = numerals_by_value AllAre tells_all_ascii_digits
 
 -- The text that `make` writes for any number of rows says this of them.
@@ -239,7 +239,7 @@ make_reads n lt =
 
 -- ---- where it ends
 
-past_digits : (ds part more : List ℕ) → AllAre ds → whole_lines part (ds ++ more) ≡ whole_lines (part ++ ds) more
+pub past_digits : (ds part more : List ℕ) → AllAre ds → whole_lines part (ds ++ more) ≡ whole_lines (part ++ ds) more
 past_digits [] part more e = ap (λ (x : List ℕ). whole_lines x more) (sym (append-nil part))
 past_digits (d ∷ ds) part more e =
     let p = tells_all_ascii_digits.parts d ds e in
@@ -249,7 +249,7 @@ past_digits (d ∷ ds) part more e =
 to_bracket : (mid : List ℕ) → ending (text_1 mid) ≡ first_ending 88 (whole_lines (codes "}[") mid)
 to_bracket mid = refl
 
-abbrev last_line : List ℕ → List ℕ
+abbrev pub last_line : List ℕ → List ℕ
 last_line rows = codes "# SDF-EOH" ++ 10 ∷ rows
 
 made_ends : (ds rows : List ℕ) → AllAre ds → ending (text_1 (ds ++ 93 ∷ 59 ∷ 10 ∷ last_line rows)) ≡ Some (88 + length (((codes "}[" ++ ds) ++ 93 ∷ []) ++ 59 ∷ []) + 1, 88 + length (((codes "}[" ++ ds) ++ 93 ∷ []) ++ 59 ∷ []) + 1 + 9 + 1)
