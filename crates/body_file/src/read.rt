@@ -40,8 +40,8 @@ pub fn read_bodies<S: Source>(
     requires few { S.opens source.old < MAX_OPENS }
     requires allowed { S.allows source.old (S.opens source.old) name.now ≡ true }
     ensures answer { (input : Reading)
-        × Stands S.left S.is_open S.opens S.faults (S.file source.old name.now) source.old source.new input
-        × IsPrompt input
+        × Stands S.left S.is_open S.opens S.faults (S.file source.old name.now) source.old
+        source.new input × IsPrompt input
         × MatchResult result (ReadsBodies input) (Stopped input) }
     ensures files { S.file source.new ≡ S.file source.old }
     ensures names { S.allows source.new ≡ S.allows source.old }

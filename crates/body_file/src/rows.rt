@@ -23,8 +23,8 @@ fn take_row(rows: &mut Rows, set: &mut BodySet, piece: &[u8]) -> Result<usize, R
     requires some { 1 ≤ length piece.now }
     requires fed { (l : LayoutValue) × (bytes : List ℕ) × IsAt l rows.old set.old bytes }
     ensures within { IfOk result (λ taken. (1 ≤ taken) × (taken ≤ length piece.now)) }
-    ensures step { (l : LayoutValue) (bytes : List ℕ) → IsAt l rows.old set.old bytes → MatchResult result
-        (λ taken. IsAt l rows.new set.new (bytes ++ take taken piece.now))
+    ensures step { (l : LayoutValue) (bytes : List ℕ) → IsAt l rows.old set.old bytes
+        → MatchResult result (λ taken. IsAt l rows.new set.new (bytes ++ take taken piece.now))
         (StopsRows l (bytes ++ piece.now)) }
 {
     let step = match rows.feed(piece) {
@@ -41,8 +41,8 @@ fn take_row(rows: &mut Rows, set: &mut BodySet, piece: &[u8]) -> Result<usize, R
 /// Takes a piece of the bytes behind the header: adds each row that ends in it to the set.
 pub fn take_rows(rows: &mut Rows, set: &mut BodySet, piece: &[u8]) -> Result<(), ReadError>
     requires fed { (l : LayoutValue) × (bytes : List ℕ) × IsAt l rows.old set.old bytes }
-    ensures { (l : LayoutValue) (bytes : List ℕ) → IsAt l rows.old set.old bytes → MatchResult result
-        (λ _. IsAt l rows.new set.new (bytes ++ piece.now))
+    ensures { (l : LayoutValue) (bytes : List ℕ) → IsAt l rows.old set.old bytes
+        → MatchResult result (λ _. IsAt l rows.new set.new (bytes ++ piece.now))
         (StopsRows l (bytes ++ piece.now)) }
 {
     let mut rest = piece;

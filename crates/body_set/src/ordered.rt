@@ -21,9 +21,14 @@ impl Model for Ordered {
 
     ghost Value = { OrderedValue };
 
-    ghost view = { λ o. record { bodies = o.bodies.items; idents = o.idents.items; weights = o.weights.items } };
+    ghost view = { λ o. record {
+      bodies = o.bodies.items;
+      idents = o.idents.items;
+      weights = o.weights.items;
+    } };
 
-    ghost invariant = { λ o. IsOrderedSet (record { bodies = o.bodies.items; idents = o.idents.items; weights = o.weights.items }) };
+    ghost invariant = { λ o. IsOrderedSet
+        (record { bodies = o.bodies.items; idents = o.idents.items; weights = o.weights.items }) };
 }
 
 /// Which of two bodies comes first: by key, and then by row.
@@ -36,7 +41,12 @@ fn by_key_and_row(a: &Body, b: &Body) -> Ordering
 /// The bodies of a set in key order, by std's sort, which works in place.
 pub(crate) fn in_key_order(mut bodies: Vec<Body>, idents: Vec<i128>, weights: Vec<u32>) -> Ordered
     requires { IsSet bodies.items idents.items weights.items }
-    ensures { result ≡ record { bodies = order.ordered bodies.items; idents = idents.items; weights = weights.items } }
+    ensures { result
+        ≡ record {
+          bodies = order.ordered bodies.items;
+          idents = idents.items;
+          weights = weights.items;
+        } }
 {
     bodies.sort_unstable_by(by_key_and_row);
     Ordered {

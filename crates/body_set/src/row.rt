@@ -1,4 +1,5 @@
-ghost use Rattle.std.specs.Prelude.{◌≡◌, ◌<◌, ◌≤◌, ◌^◌, pos, true, false, nat_abs, IfSome, IfOk, MatchOption};
+ghost use Rattle.std.specs.Prelude.{◌≡◌, ◌<◌, ◌≤◌, ◌^◌, pos, true, false, nat_abs, IfSome, IfOk};
+ghost use Rattle.std.specs.Prelude.{MatchOption};
 ghost use Rattle.hot_model.specs.Limits.{fine_bits};
 ghost use Rattle.hot_model.specs.World.{IsBody};
 ghost use Rattle.body_set.specs.Rows as rows;
@@ -13,7 +14,8 @@ use sdf_rows::RawRow;
 fn fine(bits: u32, corner: i128, at: i128) -> Option<u32>
     requires low { 1 ≤ bits }
     requires high { bits ≤ fine_bits }
-    ensures inside { MatchOption result (rows.is_inside bits corner at ≡ false) (λ n. (rows.is_inside bits corner at ≡ true) × (n ≡ rows.fine bits corner at)) }
+    ensures inside { MatchOption result (rows.is_inside bits corner at ≡ false)
+        (λ n. (rows.is_inside bits corner at ≡ true) × (n ≡ rows.fine bits corner at)) }
     ensures within { IfSome result (λ n. n < 2 ^ fine_bits) }
 {
     if at < corner {
@@ -29,7 +31,8 @@ fn fine(bits: u32, corner: i128, at: i128) -> Option<u32>
 
 /// A number of the file from `first` to `last`; None exactly for any other.
 fn in_range(first: u32, last: u32, n: i128) -> Option<u32>
-    ensures between { MatchOption result (rows.is_between (pos first) (pos last) n ≡ false) (λ k. (rows.is_between (pos first) (pos last) n ≡ true) × (k ≡ nat_abs n)) }
+    ensures between { MatchOption result (rows.is_between (pos first) (pos last) n ≡ false)
+        (λ k. (rows.is_between (pos first) (pos last) n ≡ true) × (k ≡ nat_abs n)) }
     ensures within { IfSome result (λ k. (first ≤ k) × (k ≤ last)) }
 {
     if i128::from(first) <= n && n <= i128::from(last) {
@@ -41,7 +44,9 @@ fn in_range(first: u32, last: u32, n: i128) -> Option<u32>
 
 /// The body and the work weight that row number `row` gives, or the first fault that it has.
 pub fn read_row(cube: Cube, row: u32, raw: &RawRow) -> Result<(Body, u32), PushError>
-    ensures answer { MatchOption (rows.first_fault cube row raw.now) (result ≡ Ok (rows.body_of_row cube row raw.now, rows.weight_of_row raw.now)) (λ f. result ≡ Err f) }
+    ensures answer { MatchOption (rows.first_fault cube row raw.now)
+        (result ≡ Ok (rows.body_of_row cube row raw.now, rows.weight_of_row raw.now))
+        (λ f. result ≡ Err f) }
     ensures body { IfOk result (λ p. IsBody p.0) }
 {
     if row >= MAX_BODIES {

@@ -1,4 +1,5 @@
-ghost use Rattle.std.specs.Prelude.{◌≡◌, ◌≤◌, ◌∷◌, ◌++◌, [], length, IsOkAnd, IsOkUnless, OnOk, OnErr, MatchOption, MatchResult};
+ghost use Rattle.std.specs.Prelude.{◌≡◌, ◌≤◌, ◌∷◌, ◌++◌, [], length, IsOkAnd, IsOkUnless, OnOk};
+ghost use Rattle.std.specs.Prelude.{OnErr, MatchOption, MatchResult};
 ghost use Rattle.hot_model.specs.Limits.{max_bodies};
 ghost use Rattle.body_set.specs.Rows.{first_fault};
 ghost use Rattle.body_set.specs.Sets as sets;
@@ -26,7 +27,12 @@ impl Model for BodySet {
 
     ghost Value = { SetValue };
 
-    ghost view = { λ s. record { cube = s.cube; bodies = s.bodies.items; idents = s.idents.items; weights = s.weights.items } };
+    ghost view = { λ s. record {
+      cube = s.cube;
+      bodies = s.bodies.items;
+      idents = s.idents.items;
+      weights = s.weights.items;
+    } };
 
     ghost invariant = { λ s. IsSet s.bodies.items s.idents.items s.weights.items };
 }
@@ -43,9 +49,12 @@ fn append(
     ident: i128,
     weight: u32,
 ) -> Result<(), AllocError>
-    ensures bodies { MatchResult result (λ _. bodies.new.items ≡ bodies.old.items ++ body ∷ []) (λ _. bodies.new.items ≡ bodies.old.items) }
-    ensures idents { MatchResult result (λ _. idents.new.items ≡ idents.old.items ++ ident ∷ []) (λ _. idents.new.items ≡ idents.old.items) }
-    ensures weights { MatchResult result (λ _. weights.new.items ≡ weights.old.items ++ weight ∷ []) (λ _. weights.new.items ≡ weights.old.items) }
+    ensures bodies { MatchResult result (λ _. bodies.new.items ≡ bodies.old.items ++ body ∷ [])
+        (λ _. bodies.new.items ≡ bodies.old.items) }
+    ensures idents { MatchResult result (λ _. idents.new.items ≡ idents.old.items ++ ident ∷ [])
+        (λ _. idents.new.items ≡ idents.old.items) }
+    ensures weights { MatchResult result (λ _. weights.new.items ≡ weights.old.items ++ weight ∷ [])
+        (λ _. weights.new.items ≡ weights.old.items) }
 {
     bodies.reserve(1)?;
     idents.reserve(1)?;
@@ -74,7 +83,9 @@ impl BodySet {
     /// not 1 to 4,194,304; the work is not 0 to 2^32 - 1. Memory may run out for a row that is
     /// good. A refusal leaves the set unchanged.
     pub fn push(&mut self, raw: &RawRow) -> Result<(), PushError>
-        ensures first_fault { MatchOption (first_fault self.old.cube (length self.old.bodies) raw.now) (IsOkUnless result PushError.Memory) (λ fault. result ≡ Err fault) }
+        ensures first_fault { MatchOption
+            (first_fault self.old.cube (length self.old.bodies) raw.now)
+            (IsOkUnless result PushError.Memory) (λ fault. result ≡ Err fault) }
         ensures pushed { OnOk result (self.new ≡ sets.with_row self.old raw.now) }
         ensures unchanged { OnErr result (self.new ≡ self.old) }
     {

@@ -8,7 +8,8 @@ use crate::TopCell;
 /// binary search.
 pub(crate) fn find(cells: &[TopCell], key: u64) -> Option<&TopCell>
     requires order { IsNonDecreasingBy key_of_top cells.now }
-    ensures found { MatchOption result (All (λ c. c.rec.key ≡ key → ⊥) cells.now) (λ c. (c.now.rec.key ≡ key) × Contains cells.now c.now) }
+    ensures found { MatchOption result (All (λ c. c.rec.key ≡ key → ⊥) cells.now)
+        (λ c. (c.now.rec.key ≡ key) × Contains cells.now c.now) }
 {
     let mut low = 0;
     let mut high = cells.len();

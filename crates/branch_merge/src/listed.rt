@@ -14,7 +14,8 @@ pub struct Listed {
 
 /// Adds the records of the list of a rank.
 fn add_list(listed: &mut Vec<Listed>, rank: u32, list: &RecList) -> Result<(), AllocError>
-    ensures added { IfOk result (λ _. listed.new.items ≡ listed.old.items ++ listing.of_rank rank list.now) }
+    ensures added { IfOk result
+        (λ _. listed.new.items ≡ listed.old.items ++ listing.of_rank rank list.now) }
 {
     for rec in list.as_slice() {
         listed.push(Listed { rank, rec: *rec })?;

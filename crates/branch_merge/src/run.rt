@@ -30,7 +30,8 @@ pub(crate) fn run(listed: &[Listed], cell: u64) -> (usize, usize)
     requires sorted { AreSorted listed.now }
     requires cell { IsCell cell }
     requires outside { NoneAbove listed.now cell }
-    ensures covered { filter (λ x. keys.covers cell x.rec.key) listed.now ≡ slice_range listed.now result.0 result.1 }
+    ensures covered { filter (λ x. keys.covers cell x.rec.key) listed.now
+        ≡ slice_range listed.now result.0 result.1 }
     ensures ascending { result.0 ≤ result.1 }
     ensures within { result.1 ≤ length listed.now }
 {

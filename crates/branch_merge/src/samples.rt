@@ -57,7 +57,8 @@ pub fn list_of(alloc: Global, rows: &[Cell<'_>]) -> Result<RecList, AllocError> 
 
 /// Whether a cell covers the keys of no listed record but that at a place.
 fn is_alone(rec: &CellRec, place: usize, listed: &[Listed]) -> bool
-    ensures { IsTrue result → (j : ℕ) (d : Listed) → j < length listed.now → keys.covers rec.now.key (get_or listed.now j d).rec.key ≡ true → place ≡ j }
+    ensures { IsTrue result → (j : ℕ) (d : Listed) → j < length listed.now
+        → keys.covers rec.now.key (get_or listed.now j d).rec.key ≡ true → place ≡ j }
 {
     for (j, y) in listed.iter().enumerate() {
         let other = &y.rec;

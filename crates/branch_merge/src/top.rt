@@ -1,4 +1,5 @@
-ghost use Rattle.std.specs.Prelude.{◌≡◌, ◌<◌, ◌≤◌, ℕ, List, length, get_or, All, Contains, false, true, IfOk, MatchOption};
+ghost use Rattle.std.specs.Prelude.{◌≡◌, ◌<◌, ◌≤◌, ℕ, List, length, get_or, All, Contains, false};
+ghost use Rattle.std.specs.Prelude.{true, IfOk, MatchOption};
 ghost use Rattle.std.specs.List.Sorted.{IsPermutation};
 ghost use Rattle.hot_model.specs.Keys.{IsCell, covers};
 ghost use Rattle.branch_merge.specs.Listing as listing;
@@ -55,7 +56,8 @@ impl Top {
     /// The top cell of a key, with its record and its children; None exactly where the key is no
     /// top cell's. A binary search. It takes no memory.
     pub fn get(&self, key: u64) -> Option<&TopCell>
-        ensures cell { MatchOption result (tops.IsTopOf self.now key → ⊥) (λ cell. tops.IsTopOf self.now key × tops.IsTopCell self.now key cell.now) }
+        ensures cell { MatchOption result (tops.IsTopOf self.now key → ⊥)
+            (λ cell. tops.IsTopOf self.now key × tops.IsTopCell self.now key cell.now) }
     {
         find(&self.cells, key)
     }
@@ -63,7 +65,8 @@ impl Top {
     /// The listed record whose cell contains or is this cell.
     fn holder(&self, key: u64) -> Option<Listed>
         requires cell { IsCell key }
-        ensures holder { MatchOption result (All (λ x. covers x.rec.key key ≡ false) self.now) (λ x. IsHolder self.now key x) }
+        ensures holder { MatchOption result (All (λ x. covers x.rec.key key ≡ false) self.now)
+            (λ x. IsHolder self.now key x) }
     {
         let to = count_to(&self.listed, first_key(key));
         if to == 0 {
@@ -78,7 +81,8 @@ impl Top {
     /// no memory.
     pub fn branch(&self, key: u64) -> Option<CellRec>
         requires cell { IsCell key }
-        ensures listed { MatchOption result (All (λ x. x.rec.key ≡ key → ⊥) self.now) (λ r. (r.key ≡ key) × ((x : Listed) × Contains self.now x × (x.rec ≡ r))) }
+        ensures listed { MatchOption result (All (λ x. x.rec.key ≡ key → ⊥) self.now)
+            (λ r. (r.key ≡ key) × ((x : Listed) × Contains self.now x × (x.rec ≡ r))) }
     {
         match self.holder(key) {
             Some(x) if x.rec.key == key => Some(x.rec),
@@ -90,7 +94,8 @@ impl Top {
     /// A binary search. It takes no memory.
     pub fn owner(&self, key: u64) -> Option<u32>
         requires cell { IsCell key }
-        ensures owner { MatchOption result ((q : ℕ) → tops.IsOwnerIn self.now q key → ⊥) (λ q. tops.IsOwnerIn self.now q key) }
+        ensures owner { MatchOption result ((q : ℕ) → tops.IsOwnerIn self.now q key → ⊥)
+            (λ q. tops.IsOwnerIn self.now q key) }
     {
         self.holder(key).map(|x| x.rank)
     }
@@ -98,7 +103,9 @@ impl Top {
     /// The i-th top cell by ascending key, counted from 0; None exactly past the last. It takes no
     /// memory.
     pub fn at(&self, i: usize) -> Option<&TopCell>
-        ensures cell { (keys : List ℕ) × tops.AreTops self.now keys × MatchOption result (length keys ≤ i) (λ cell. (i < length keys) × tops.IsTopCell self.now (get_or keys i 0) cell.now) }
+        ensures cell { (keys : List ℕ) × tops.AreTops self.now keys
+            × MatchOption result (length keys ≤ i)
+            (λ cell. (i < length keys) × tops.IsTopCell self.now (get_or keys i 0) cell.now) }
     {
         self.cells.get(i)
     }

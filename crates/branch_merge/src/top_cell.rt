@@ -4,7 +4,8 @@ ghost use Rattle.hot_model.specs.Keys.{IsCell};
 ghost use Rattle.hot_model.specs.Keys as keys;
 ghost use Rattle.branch_merge.specs.Listing.{AreApart};
 ghost use Rattle.branch_merge.specs.Tops as tops;
-ghost use Rattle.branch_merge.specs.Merged.{AreInOrder, AreSorted, AreBelow, AreLight, IsMerged, sums_of};
+ghost use Rattle.branch_merge.specs.Merged.{AreInOrder, AreSorted, AreBelow, AreLight, IsMerged};
+ghost use Rattle.branch_merge.specs.Merged.{sums_of};
 
 use crate::Listed;
 use crate::above::keys_above;

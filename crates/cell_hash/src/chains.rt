@@ -1,4 +1,5 @@
-ghost use Rattle.std.specs.Prelude.{◌≡◌, ◌≤◌, ◌++◌, ◌∷◌, [], IfOk, OnOk, OnErr, IfSome, IsNone, length};
+ghost use Rattle.std.specs.Prelude.{◌≡◌, ◌≤◌, ◌++◌, ◌∷◌, [], IfOk, OnOk, OnErr, IfSome, IsNone};
+ghost use Rattle.std.specs.Prelude.{length};
 ghost use Rattle.cell_hash.specs.Limits.{min_bits, max_bits};
 ghost use Rattle.cell_hash.specs.Entries.{StandsAt, IsAbsentFrom};
 
@@ -29,7 +30,8 @@ impl Model for Chains {
 
     ghost view = { λ c. keys_of c.links.items };
 
-    ghost invariant = { λ c. AreChains c.mask c.heads.items (keys_of c.links.items) (befores_of c.links.items) };
+    ghost invariant = { λ c. AreChains c.mask c.heads.items (keys_of c.links.items)
+        (befores_of c.links.items) };
 }
 
 impl Chains {

@@ -126,7 +126,9 @@ fn entries_of(alloc: Global, tag: u8, bytes: &[u8]) -> Result<(Answer, &[u8]), L
 
 /// Writes the tag of an answer and its entries.
 fn put_answer(out: &mut Vec<u8>, answer: &Answer) -> Result<(), AllocError>
-    ensures { OnOk result (out.new.items ≡ out.old.items ++ (number mark_size (tag_of answer.now) ++ entries answer.now)) }
+    ensures { OnOk result
+        (out.new.items
+        ≡ out.old.items ++ (number mark_size (tag_of answer.now) ++ entries answer.now)) }
 {
     match answer {
         Answer::Children(cells) => {
@@ -145,7 +147,7 @@ impl Entry for Answered {
 
     ghost spelled = { item_bytes };
 
-    #[tactic(auto, using(crate::proofs::Hints::on_items), unfolding(crate::specs::Reading::item_at))]
+    #[tactic(auto, using(crate::proofs::Hints::on_items), unfolding(crate::specs::Reading::item_at),)]
     fn read(alloc: Global, bytes: &[u8]) -> Result<(Answered, &[u8]), LetterError> {
         let (key, rest) = u64_at(bytes)?;
         let (tag, rest) = u8_at(rest)?;
@@ -220,7 +222,7 @@ fn behind_answer(alloc: Global, cell: u64, tag: u8, bytes: &[u8]) -> Result<&[u8
 impl Skim for Answered {
     ghost key_at = { skimming.item_key_at };
 
-    #[tactic(auto, using(crate::proofs::Hints::on_items), unfolding(crate::specs::Skimming::item_key_at))]
+    #[tactic(auto, using(crate::proofs::Hints::on_items), unfolding(crate::specs::Skimming::item_key_at),)]
     fn skim(alloc: Global, bytes: &[u8]) -> Result<(u64, &[u8]), LetterError> {
         let (key, rest) = u64_at(bytes)?;
         let (tag, rest) = u8_at(rest)?;

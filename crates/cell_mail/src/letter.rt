@@ -42,7 +42,9 @@ impl Model for Letter {
 
 /// The version, a kind and the items.
 fn spelled<T: Entry>(alloc: Global, kind: u8, items: &[T]) -> Result<Vec<u8>, AllocError>
-    ensures { IfOk result (λ v. v.items ≡ number mark_size version ++ (number mark_size kind ++ counted T.spelled items.now)) }
+    ensures { IfOk result
+        (λ v. v.items
+        ≡ number mark_size version ++ (number mark_size kind ++ counted T.spelled items.now)) }
 {
     let mut out = Vec::new(alloc);
     put_u8(&mut out, VERSION)?;
@@ -58,7 +60,8 @@ impl Letter {
     pub fn branches(alloc: Global, from: u32, to: u32, list: &RecList) -> Result<Letter, AllocError>
         requires ranks { letters.AreRanks from to }
         requires good { HasSpelling (content.Branches list.now) }
-        ensures letter { IfOk result (λ l. l ≡ record { from = from; to = to; content = content.Branches list.now }) }
+        ensures letter { IfOk result
+            (λ l. l ≡ record { from = from; to = to; content = content.Branches list.now }) }
     {
         let bytes = spelled(alloc, BRANCHES, list.as_slice())?;
         let keys = keys_of(alloc, list.as_slice())?;
@@ -77,7 +80,8 @@ impl Letter {
     pub fn asks(alloc: Global, from: u32, to: u32, keys: &KeyList) -> Result<Letter, AllocError>
         requires ranks { letters.AreRanks from to }
         requires good { HasSpelling (content.Asks keys.now) }
-        ensures letter { IfOk result (λ l. l ≡ record { from = from; to = to; content = content.Asks keys.now }) }
+        ensures letter { IfOk result
+            (λ l. l ≡ record { from = from; to = to; content = content.Asks keys.now }) }
     {
         let bytes = spelled(alloc, ASKS, keys.as_slice())?;
         let keys = keys_of(alloc, keys.as_slice())?;
@@ -102,7 +106,8 @@ impl Letter {
     ) -> Result<Letter, AllocError>
         requires ranks { letters.AreRanks from to }
         requires good { HasSpelling (content.Answers list.now) }
-        ensures letter { IfOk result (λ l. l ≡ record { from = from; to = to; content = content.Answers list.now }) }
+        ensures letter { IfOk result
+            (λ l. l ≡ record { from = from; to = to; content = content.Answers list.now }) }
     {
         let bytes = spelled(alloc, ANSWERS, list.as_slice())?;
         let keys = keys_of(alloc, list.as_slice())?;
@@ -125,8 +130,10 @@ impl Letter {
         bytes: &[u8],
     ) -> Result<Letter, LetterError>
         requires ranks { letters.AreRanks from to }
-        ensures letter { IfOk result (λ l. (l.from ≡ from) × (l.to ≡ to) × Spells bytes.now l.content) }
-        ensures not_a_letter { result ≡ Err errors.NotALetter → (c : Content) → Spells bytes.now c → ⊥ }
+        ensures letter { IfOk result
+            (λ l. (l.from ≡ from) × (l.to ≡ to) × Spells bytes.now l.content) }
+        ensures not_a_letter { result ≡ Err errors.NotALetter → (c : Content) → Spells bytes.now c
+            → ⊥ }
     {
         let (kind, keys) = whole(alloc, bytes)?;
         let bytes = Vec::from_slice(alloc, bytes)?;

@@ -44,7 +44,7 @@ impl Entry for CellRec {
 
     ghost spelled = { record_bytes };
 
-    #[tactic(auto, using(crate::proofs::Hints::on_records), unfolding(crate::specs::Reading::record_at))]
+    #[tactic(auto, using(crate::proofs::Hints::on_records), unfolding(crate::specs::Reading::record_at),)]
     fn read(_alloc: Global, bytes: &[u8]) -> Result<(CellRec, &[u8]), LetterError> {
         let (key, rest) = u64_at(bytes)?;
         let (count, rest) = u32_at(rest)?;
@@ -85,7 +85,7 @@ impl Entry for Body {
 
     ghost spelled = { body_bytes };
 
-    #[tactic(auto, using(crate::proofs::Hints::on_bodies), unfolding(crate::specs::Reading::body_at))]
+    #[tactic(auto, using(crate::proofs::Hints::on_bodies), unfolding(crate::specs::Reading::body_at),)]
     fn read(_alloc: Global, bytes: &[u8]) -> Result<(Body, &[u8]), LetterError> {
         let (x, rest) = u32_at(bytes)?;
         let (y, rest) = u32_at(rest)?;

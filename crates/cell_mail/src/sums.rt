@@ -72,7 +72,7 @@ fn firsts_fit(key: u64, mass: u64, s: [u128; SUMS]) -> bool
 }
 
 /// Whether the other six sums may be those of bodies in the cell, where the first three may be.
-#[tactic(auto, using(crate::proofs::Hints::on_firsts), unfolding(crate::specs::Reading::seconds_fit))]
+#[tactic(auto, using(crate::proofs::Hints::on_firsts), unfolding(crate::specs::Reading::seconds_fit),)]
 fn seconds_fit(key: u64, mass: u64, s: [u128; SUMS]) -> bool
     requires cell { keys.IsCell key }
     requires light { mass ≤ max_all_mass }

@@ -21,7 +21,8 @@ pub fn hold(
     whole: bool,
     bodies: &[u32],
 ) -> Result<(), AllocError>
-    ensures value { OnOk result (all_listed held.new.items ≡ all_listed held.old.items ++ listed_as key whole bodies.now) }
+    ensures value { OnOk result
+        (all_listed held.new.items ≡ all_listed held.old.items ++ listed_as key whole bodies.now) }
 {
     let bodies = SmallVec::from_slice(alloc, bodies)?;
     held.push(Held { key, whole, bodies })?;

@@ -1,4 +1,5 @@
-ghost use Rattle.std.specs.Prelude.{◌≡◌, ℕ, ◌+◌, ◌-◌, ◌<◌, ◌≤◌, ◌^◌, Bool, false, true, List, [], ◌∷◌, ◌++◌, Some, IfOk, OnOk, length, All};
+ghost use Rattle.std.specs.Prelude.{◌≡◌, ℕ, ◌+◌, ◌-◌, ◌<◌, ◌≤◌, ◌^◌, Bool, false, true, List, []};
+ghost use Rattle.std.specs.Prelude.{◌∷◌, ◌++◌, Some, IfOk, OnOk, length, All};
 ghost use Rattle.hot_model.specs.Limits.{max_all_mass};
 ghost use Rattle.hot_model.specs.World.{World, IsGood, record_in, piece as piece_of};
 ghost use Rattle.hot_model.specs.Answers.{true_answer};
@@ -6,7 +7,8 @@ ghost use Rattle.hot_model.specs.Pairs.{PairValue, pair_with};
 ghost use Rattle.defer_walk.specs.declared.asks.Slot.{Slot};
 ghost use Rattle.defer_walk.specs.Asked.{stored_at, Extends};
 ghost use Rattle.defer_walk.specs.Grouping.{group, by_children, AreOpened, listed_of, all_listed};
-ghost use Rattle.defer_walk.specs.Standing.{meaning, AreStored, Waits, IsAwake, pairs_in, roots, left_by};
+ghost use Rattle.defer_walk.specs.Standing.{meaning, AreStored, Waits, IsAwake, pairs_in, roots};
+ghost use Rattle.defer_walk.specs.Standing.{left_by};
 ghost use Rattle.defer_walk.specs.Turning.{Beginning, ComesFrom, Runs, AreReady};
 
 use crate::asks::Asks;
@@ -33,10 +35,28 @@ pub fn begin<V: Visit, C: Cells>(
     asks: &mut Asks,
     held: &mut Vec<Held>,
 ) -> Result<(), AllocError>
-    requires fits { (w : World) × (me : ℕ) × (start : Beginning) × C.stands cells.now w me × IsGood w × (piece.now ≡ piece_of w me) × Runs (meaning V.zero_of V.adds V.opens_by V.Acc.seen_of visit.now) w me start piece.now accs.old tally.old asks.old (pairs_in w (roots (length piece.now))) (pairs_in w (all_listed held.old.items)) × (start.advanced ≡ false) × (record_in w 1 ≡ Some root) }
-    ensures stored { (w : World) (me : ℕ) (start : Beginning) → C.stands cells.now w me → IsGood w → piece.now ≡ piece_of w me → (start.advanced ≡ false) → (record_in w 1 ≡ Some root) → Runs (meaning V.zero_of V.adds V.opens_by V.Acc.seen_of visit.now) w me start piece.now accs.old tally.old asks.old (pairs_in w (roots (length piece.now))) (pairs_in w (all_listed held.old.items)) → AreStored (meaning V.zero_of V.adds V.opens_by V.Acc.seen_of visit.now) w me asks.new }
+    requires fits { (w : World) × (me : ℕ) × (start : Beginning) × C.stands cells.now w me
+        × IsGood w × (piece.now ≡ piece_of w me)
+        × Runs (meaning V.zero_of V.adds V.opens_by V.Acc.seen_of visit.now) w me start piece.now
+        accs.old tally.old asks.old (pairs_in w (roots (length piece.now)))
+        (pairs_in w (all_listed held.old.items)) × (start.advanced ≡ false)
+        × (record_in w 1 ≡ Some root) }
+    ensures stored { (w : World) (me : ℕ) (start : Beginning) → C.stands cells.now w me → IsGood w
+        → piece.now ≡ piece_of w me → (start.advanced ≡ false) → (record_in w 1 ≡ Some root)
+        → Runs (meaning V.zero_of V.adds V.opens_by V.Acc.seen_of visit.now) w me start piece.now
+        accs.old tally.old asks.old (pairs_in w (roots (length piece.now)))
+        (pairs_in w (all_listed held.old.items))
+        → AreStored (meaning V.zero_of V.adds V.opens_by V.Acc.seen_of visit.now) w me asks.new }
     ensures extends { Extends asks.old asks.new }
-    ensures runs { OnOk result ((w : World) (me : ℕ) (start : Beginning) → C.stands cells.now w me → IsGood w → piece.now ≡ piece_of w me → (start.advanced ≡ false) → (record_in w 1 ≡ Some root) → Runs (meaning V.zero_of V.adds V.opens_by V.Acc.seen_of visit.now) w me start piece.now accs.old tally.old asks.old (pairs_in w (roots (length piece.now))) (pairs_in w (all_listed held.old.items)) → Runs (meaning V.zero_of V.adds V.opens_by V.Acc.seen_of visit.now) w me start piece.now accs.new tally.new asks.new [] (pairs_in w (all_listed held.new.items))) }
+    ensures runs { OnOk result
+        ((w : World) (me : ℕ) (start : Beginning) → C.stands cells.now w me → IsGood w
+        → piece.now ≡ piece_of w me → (start.advanced ≡ false) → (record_in w 1 ≡ Some root)
+        → Runs (meaning V.zero_of V.adds V.opens_by V.Acc.seen_of visit.now) w me start
+        piece.now accs.old tally.old asks.old (pairs_in w (roots (length piece.now)))
+        (pairs_in w (all_listed held.old.items))
+        → Runs (meaning V.zero_of V.adds V.opens_by V.Acc.seen_of visit.now) w me start
+        piece.now accs.new tally.new asks.new []
+        (pairs_in w (all_listed held.new.items))) }
 {
     let mut leaf = Vec::new(alloc);
     let mut to = piece.len() as u32;
@@ -74,8 +94,31 @@ fn wake<V: Visit>(
     answer: &Answer,
     recs: &mut Vec<CellRec>,
 ) -> Result<(), AllocError>
-    requires fits { (w : World) × (me : ℕ) × (start : Beginning) × (slots : List Slot) × (keep waiting : List PairValue) × IsGood w × (piece.now ≡ piece_of w me) × (stored_at slots waits.now.key ≡ Some answer.now) × All (Waits (meaning V.zero_of V.adds V.opens_by V.Acc.seen_of visit.now) w me piece.now start.slots) (pairs_in w (listed_of waits.now)) × (start.advanced ≡ true) × IsAwake start.slots start.pairs waits.now.key × Runs (meaning V.zero_of V.adds V.opens_by V.Acc.seen_of visit.now) w me start piece.now accs.old tally.old slots (keep ++ pairs_in w (listed_of waits.now)) waiting }
-    ensures woken { OnOk result ((w : World) (me : ℕ) (start : Beginning) (slots : List Slot) (keep waiting : List PairValue) → IsGood w → piece.now ≡ piece_of w me → stored_at slots waits.now.key ≡ Some answer.now → All (Waits (meaning V.zero_of V.adds V.opens_by V.Acc.seen_of visit.now) w me piece.now start.slots) (pairs_in w (listed_of waits.now)) → (start.advanced ≡ true) → IsAwake start.slots start.pairs waits.now.key → Runs (meaning V.zero_of V.adds V.opens_by V.Acc.seen_of visit.now) w me start piece.now accs.old tally.old slots (keep ++ pairs_in w (listed_of waits.now)) waiting → Runs (meaning V.zero_of V.adds V.opens_by V.Acc.seen_of visit.now) w me start piece.now accs.new tally.new slots (keep ++ by_children false waits.now.bodies.items recs.new.items) waiting × All (λ r. ComesFrom start.advanced w me start (pair_with 0 false r)) recs.new.items) }
+    requires fits { (w : World) × (me : ℕ) × (start : Beginning) × (slots : List Slot)
+        × (keep waiting : List PairValue) × IsGood w × (piece.now ≡ piece_of w me)
+        × (stored_at slots waits.now.key ≡ Some answer.now)
+        × All
+        (Waits (meaning V.zero_of V.adds V.opens_by V.Acc.seen_of visit.now) w me piece.now
+        start.slots) (pairs_in w (listed_of waits.now)) × (start.advanced ≡ true)
+        × IsAwake start.slots start.pairs waits.now.key
+        × Runs (meaning V.zero_of V.adds V.opens_by V.Acc.seen_of visit.now) w me start piece.now
+        accs.old tally.old slots (keep ++ pairs_in w (listed_of waits.now)) waiting }
+    ensures woken { OnOk result
+        ((w : World) (me : ℕ) (start : Beginning) (slots : List Slot)
+        (keep waiting : List PairValue) → IsGood w → piece.now ≡ piece_of w me
+        → stored_at slots waits.now.key ≡ Some answer.now
+        → All
+        (Waits (meaning V.zero_of V.adds V.opens_by V.Acc.seen_of visit.now) w me piece.now
+        start.slots) (pairs_in w (listed_of waits.now)) → (start.advanced ≡ true)
+        → IsAwake start.slots start.pairs waits.now.key
+        → Runs (meaning V.zero_of V.adds V.opens_by V.Acc.seen_of visit.now) w me start
+        piece.now accs.old tally.old slots (keep ++ pairs_in w (listed_of waits.now))
+        waiting
+        → Runs (meaning V.zero_of V.adds V.opens_by V.Acc.seen_of visit.now) w me start
+        piece.now accs.new tally.new slots
+        (keep ++ by_children false waits.now.bodies.items recs.new.items) waiting
+        × All (λ r. ComesFrom start.advanced w me start (pair_with 0 false r))
+        recs.new.items) }
 {
     recs.clear();
     match answer {
@@ -108,10 +151,39 @@ pub fn resume<V: Visit, C: Cells>(
     waits: &mut Vec<Held>,
     held: &mut Vec<Held>,
 ) -> Result<(), AllocError>
-    requires fits { (w : World) × (me : ℕ) × (start : Beginning) × C.stands cells.now w me × IsGood w × (piece.now ≡ piece_of w me) × Runs (meaning V.zero_of V.adds V.opens_by V.Acc.seen_of visit.now) w me start piece.now accs.old tally.old asks.old (pairs_in w (all_listed waits.old.items)) (pairs_in w (all_listed held.old.items)) × (start.advanced ≡ true) × (start.pairs ≡ all_listed waits.old.items) × All (Waits (meaning V.zero_of V.adds V.opens_by V.Acc.seen_of visit.now) w me piece.now start.slots) (pairs_in w (all_listed waits.old.items)) }
-    ensures stored { (w : World) (me : ℕ) (start : Beginning) → C.stands cells.now w me → IsGood w → piece.now ≡ piece_of w me → (start.advanced ≡ true) → (start.pairs ≡ all_listed waits.old.items) → All (Waits (meaning V.zero_of V.adds V.opens_by V.Acc.seen_of visit.now) w me piece.now start.slots) (pairs_in w (all_listed waits.old.items)) → Runs (meaning V.zero_of V.adds V.opens_by V.Acc.seen_of visit.now) w me start piece.now accs.old tally.old asks.old (pairs_in w (all_listed waits.old.items)) (pairs_in w (all_listed held.old.items)) → AreStored (meaning V.zero_of V.adds V.opens_by V.Acc.seen_of visit.now) w me asks.new }
+    requires fits { (w : World) × (me : ℕ) × (start : Beginning) × C.stands cells.now w me
+        × IsGood w × (piece.now ≡ piece_of w me)
+        × Runs (meaning V.zero_of V.adds V.opens_by V.Acc.seen_of visit.now) w me start piece.now
+        accs.old tally.old asks.old (pairs_in w (all_listed waits.old.items))
+        (pairs_in w (all_listed held.old.items)) × (start.advanced ≡ true)
+        × (start.pairs ≡ all_listed waits.old.items)
+        × All
+        (Waits (meaning V.zero_of V.adds V.opens_by V.Acc.seen_of visit.now) w me piece.now
+        start.slots) (pairs_in w (all_listed waits.old.items)) }
+    ensures stored { (w : World) (me : ℕ) (start : Beginning) → C.stands cells.now w me → IsGood w
+        → piece.now ≡ piece_of w me → (start.advanced ≡ true)
+        → (start.pairs ≡ all_listed waits.old.items)
+        → All
+        (Waits (meaning V.zero_of V.adds V.opens_by V.Acc.seen_of visit.now) w me piece.now
+        start.slots) (pairs_in w (all_listed waits.old.items))
+        → Runs (meaning V.zero_of V.adds V.opens_by V.Acc.seen_of visit.now) w me start piece.now
+        accs.old tally.old asks.old (pairs_in w (all_listed waits.old.items))
+        (pairs_in w (all_listed held.old.items))
+        → AreStored (meaning V.zero_of V.adds V.opens_by V.Acc.seen_of visit.now) w me asks.new }
     ensures extends { Extends asks.old asks.new }
-    ensures runs { OnOk result ((w : World) (me : ℕ) (start : Beginning) → C.stands cells.now w me → IsGood w → piece.now ≡ piece_of w me → (start.advanced ≡ true) → (start.pairs ≡ all_listed waits.old.items) → All (Waits (meaning V.zero_of V.adds V.opens_by V.Acc.seen_of visit.now) w me piece.now start.slots) (pairs_in w (all_listed waits.old.items)) → Runs (meaning V.zero_of V.adds V.opens_by V.Acc.seen_of visit.now) w me start piece.now accs.old tally.old asks.old (pairs_in w (all_listed waits.old.items)) (pairs_in w (all_listed held.old.items)) → Runs (meaning V.zero_of V.adds V.opens_by V.Acc.seen_of visit.now) w me start piece.now accs.new tally.new asks.new [] (pairs_in w (all_listed held.new.items))) }
+    ensures runs { OnOk result
+        ((w : World) (me : ℕ) (start : Beginning) → C.stands cells.now w me → IsGood w
+        → piece.now ≡ piece_of w me → (start.advanced ≡ true)
+        → (start.pairs ≡ all_listed waits.old.items)
+        → All
+        (Waits (meaning V.zero_of V.adds V.opens_by V.Acc.seen_of visit.now) w me piece.now
+        start.slots) (pairs_in w (all_listed waits.old.items))
+        → Runs (meaning V.zero_of V.adds V.opens_by V.Acc.seen_of visit.now) w me start
+        piece.now accs.old tally.old asks.old (pairs_in w (all_listed waits.old.items))
+        (pairs_in w (all_listed held.old.items))
+        → Runs (meaning V.zero_of V.adds V.opens_by V.Acc.seen_of visit.now) w me start
+        piece.now accs.new tally.new asks.new []
+        (pairs_in w (all_listed held.new.items))) }
 {
     let mut leaf = Vec::new(alloc);
     let mut recs = Vec::new(alloc);
@@ -159,10 +231,39 @@ pub fn go_on<V: Visit, C: Cells>(
     waits: &mut Vec<Held>,
     held: &mut Vec<Held>,
 ) -> Result<u64, AllocError>
-    requires fits { (w : World) × (me : ℕ) × (start : Beginning) × C.stands cells.now w me × IsGood w × (piece.now ≡ piece_of w me) × Runs (meaning V.zero_of V.adds V.opens_by V.Acc.seen_of visit.now) w me start piece.now accs.old tally.old asks.old (pairs_in w (left_by advanced (length piece.now) waits.old.items)) (pairs_in w (all_listed held.old.items)) × (start.advanced ≡ advanced) × (start.pairs ≡ left_by advanced (length piece.now) waits.old.items) × AreReady advanced (meaning V.zero_of V.adds V.opens_by V.Acc.seen_of visit.now) w me piece.now start.slots (left_by advanced (length piece.now) waits.old.items) }
-    ensures stored { (w : World) (me : ℕ) (start : Beginning) → C.stands cells.now w me → IsGood w → piece.now ≡ piece_of w me → start.advanced ≡ advanced → start.pairs ≡ left_by advanced (length piece.now) waits.old.items → AreReady advanced (meaning V.zero_of V.adds V.opens_by V.Acc.seen_of visit.now) w me piece.now start.slots (left_by advanced (length piece.now) waits.old.items) → Runs (meaning V.zero_of V.adds V.opens_by V.Acc.seen_of visit.now) w me start piece.now accs.old tally.old asks.old (pairs_in w (left_by advanced (length piece.now) waits.old.items)) (pairs_in w (all_listed held.old.items)) → AreStored (meaning V.zero_of V.adds V.opens_by V.Acc.seen_of visit.now) w me asks.new }
+    requires fits { (w : World) × (me : ℕ) × (start : Beginning) × C.stands cells.now w me
+        × IsGood w × (piece.now ≡ piece_of w me)
+        × Runs (meaning V.zero_of V.adds V.opens_by V.Acc.seen_of visit.now) w me start piece.now
+        accs.old tally.old asks.old
+        (pairs_in w (left_by advanced (length piece.now) waits.old.items))
+        (pairs_in w (all_listed held.old.items)) × (start.advanced ≡ advanced)
+        × (start.pairs ≡ left_by advanced (length piece.now) waits.old.items)
+        × AreReady advanced (meaning V.zero_of V.adds V.opens_by V.Acc.seen_of visit.now) w me
+        piece.now start.slots (left_by advanced (length piece.now) waits.old.items) }
+    ensures stored { (w : World) (me : ℕ) (start : Beginning) → C.stands cells.now w me → IsGood w
+        → piece.now ≡ piece_of w me → start.advanced ≡ advanced
+        → start.pairs ≡ left_by advanced (length piece.now) waits.old.items
+        → AreReady advanced (meaning V.zero_of V.adds V.opens_by V.Acc.seen_of visit.now) w me
+        piece.now start.slots (left_by advanced (length piece.now) waits.old.items)
+        → Runs (meaning V.zero_of V.adds V.opens_by V.Acc.seen_of visit.now) w me start piece.now
+        accs.old tally.old asks.old
+        (pairs_in w (left_by advanced (length piece.now) waits.old.items))
+        (pairs_in w (all_listed held.old.items))
+        → AreStored (meaning V.zero_of V.adds V.opens_by V.Acc.seen_of visit.now) w me asks.new }
     ensures extends { Extends asks.old asks.new }
-    ensures runs { OnOk result ((w : World) (me : ℕ) (start : Beginning) → C.stands cells.now w me → IsGood w → piece.now ≡ piece_of w me → start.advanced ≡ advanced → start.pairs ≡ left_by advanced (length piece.now) waits.old.items → AreReady advanced (meaning V.zero_of V.adds V.opens_by V.Acc.seen_of visit.now) w me piece.now start.slots (left_by advanced (length piece.now) waits.old.items) → Runs (meaning V.zero_of V.adds V.opens_by V.Acc.seen_of visit.now) w me start piece.now accs.old tally.old asks.old (pairs_in w (left_by advanced (length piece.now) waits.old.items)) (pairs_in w (all_listed held.old.items)) → Runs (meaning V.zero_of V.adds V.opens_by V.Acc.seen_of visit.now) w me start piece.now accs.new tally.new asks.new [] (pairs_in w (all_listed held.new.items))) }
+    ensures runs { OnOk result
+        ((w : World) (me : ℕ) (start : Beginning) → C.stands cells.now w me → IsGood w
+        → piece.now ≡ piece_of w me → start.advanced ≡ advanced
+        → start.pairs ≡ left_by advanced (length piece.now) waits.old.items
+        → AreReady advanced (meaning V.zero_of V.adds V.opens_by V.Acc.seen_of visit.now) w me
+        piece.now start.slots (left_by advanced (length piece.now) waits.old.items)
+        → Runs (meaning V.zero_of V.adds V.opens_by V.Acc.seen_of visit.now) w me start
+        piece.now accs.old tally.old asks.old
+        (pairs_in w (left_by advanced (length piece.now) waits.old.items))
+        (pairs_in w (all_listed held.old.items))
+        → Runs (meaning V.zero_of V.adds V.opens_by V.Acc.seen_of visit.now) w me start
+        piece.now accs.new tally.new asks.new []
+        (pairs_in w (all_listed held.new.items))) }
     ensures count { IfOk result (λ n. n ≡ length (all_listed held.new.items)) }
 {
     if advanced {

@@ -1,4 +1,7 @@
-ghost use Rattle.std.specs.Prelude.{◌≡◌, ◌≢◌, ℕ, ◌<◌, ◌≤◌, Bool, true, false, List, [], ◌∷◌, ◌++◌, Some, None, IfOk, OnOk, OnErr, IsErr, IfSome, IsSome, IsNone, IsTrue, ◌⊎◌, ◌↔◌, length, map, sum_by, drop, All, Contains, slice_get};
+ghost use Rattle.std.specs.Prelude.{◌≡◌, ◌≢◌, ℕ, ◌<◌, ◌≤◌, Bool, true, false, List, [], ◌∷◌, ◌++◌};
+ghost use Rattle.std.specs.Prelude.{Some, None, IfOk, OnOk, OnErr, IsErr, IfSome, IsSome, IsNone};
+ghost use Rattle.std.specs.Prelude.{IsTrue, ◌⊎◌, ◌↔◌, length, map, sum_by, drop, All, Contains};
+ghost use Rattle.std.specs.Prelude.{slice_get};
 ghost use Rattle.std.specs.List.Sorted.{IsStrictlyIncreasing};
 ghost use Rattle.hot_model.specs.Values.{BodyValue};
 ghost use Rattle.hot_model.specs.World.{World, IsGood, piece as piece_of};
@@ -6,7 +9,9 @@ ghost use Rattle.hot_model.specs.Branches.{IsBranch, IsOwner, parent};
 ghost use Rattle.hot_model.specs.Needs.{Needs, needed};
 ghost use Rattle.hot_model.specs.Answers.{true_answer};
 ghost use Rattle.defer_walk.specs.Asked.{asked_keys, filled, Extends};
-ghost use Rattle.defer_walk.specs.Standing.{StandsFor, Waits, IsSameWalk, IsSameStage, IsNewAsk, IsRemote, IsProgress, given_of, answer_of, meaning, fold_in, opened_by, pairs_in};
+ghost use Rattle.defer_walk.specs.Standing.{StandsFor, Waits, IsSameWalk, IsSameStage, IsNewAsk};
+ghost use Rattle.defer_walk.specs.Standing.{IsRemote, IsProgress, given_of, answer_of, meaning};
+ghost use Rattle.defer_walk.specs.Standing.{fold_in, opened_by, pairs_in};
 
 use crate::asks::Asks;
 use crate::cells::Cells;
@@ -44,9 +49,26 @@ impl<V: Visit> Model for Walk<V> {
 
     ghost Value = { WalkState V V.Acc };
 
-    ghost view = { λ p. record { me = p.me; visit = p.visit; piece = p.piece.items; accs = p.accs.items; pairs = left_by p.advanced (length p.piece.items) p.held.items; slots = p.asks; given = p.given; tally = p.tally; started = p.started; advanced = p.advanced; starved = p.starved } };
+    ghost view = { λ p. record {
+      me = p.me;
+      visit = p.visit;
+      piece = p.piece.items;
+      accs = p.accs.items;
+      pairs = left_by p.advanced (length p.piece.items) p.held.items;
+      slots = p.asks;
+      given = p.given;
+      tally = p.tally;
+      started = p.started;
+      advanced = p.advanced;
+      starved = p.starved;
+    } };
 
-    ghost invariant = { λ p. (p.given ≤ length p.asks) × (p.starved ≡ false → p.left ≡ length (left_by p.advanced (length p.piece.items) p.held.items)) × (p.all_wait ≡ true → (p.advanced ≡ true) × AreUnanswered p.asks (left_by p.advanced (length p.piece.items) p.held.items)) };
+    ghost invariant = { λ p. (p.given ≤ length p.asks)
+        × (p.starved ≡ false
+        → p.left ≡ length (left_by p.advanced (length p.piece.items) p.held.items))
+        × (p.all_wait ≡ true
+        → (p.advanced ≡ true)
+        × AreUnanswered p.asks (left_by p.advanced (length p.piece.items) p.held.items)) };
 }
 
 impl<V: Visit> Walk<V> {
@@ -54,8 +76,12 @@ impl<V: Visit> Walk<V> {
     /// rank's piece.
     pub fn new(alloc: Global, me: u32, visit: V, piece: &[Body]) -> Result<Walk<V>, AllocError>
         requires fits { (w : World) × IsGood w × (piece.now ≡ piece_of w me) }
-        ensures stands { IfOk result (λ walk. (w : World) → IsGood w → piece.now ≡ piece_of w me → StandsFor V.zero_of V.adds V.opens_by V.Acc.seen_of w walk) }
-        ensures fresh { IfOk result (λ walk. (walk.me ≡ me) × (walk.visit ≡ visit) × (walk.piece ≡ piece.now) × (walk.started ≡ false) × (walk.starved ≡ false)) }
+        ensures stands { IfOk result
+            (λ walk. (w : World) → IsGood w → piece.now ≡ piece_of w me
+            → StandsFor V.zero_of V.adds V.opens_by V.Acc.seen_of w walk) }
+        ensures fresh { IfOk result
+            (λ walk. (walk.me ≡ me) × (walk.visit ≡ visit) × (walk.piece ≡ piece.now)
+            × (walk.started ≡ false) × (walk.starved ≡ false)) }
     {
         let accs = nothing_added(alloc, &visit, piece.len())?;
         Ok(Walk {
@@ -80,12 +106,17 @@ impl<V: Visit> Walk<V> {
     /// may be called on any starved walk too, which answers want of memory.
     pub fn start<C: Cells>(&mut self, cells: &C) -> Result<(), AllocError>
         requires fresh { self.old.starved ≡ false → self.old.started ≡ false }
-        requires fits { (w : World) × C.stands cells.now w self.old.me × StandsFor V.zero_of V.adds V.opens_by V.Acc.seen_of w self.old }
-        ensures stands { (w : World) → C.stands cells.now w self.old.me → StandsFor V.zero_of V.adds V.opens_by V.Acc.seen_of w self.old → StandsFor V.zero_of V.adds V.opens_by V.Acc.seen_of w self.new }
+        requires fits { (w : World) × C.stands cells.now w self.old.me
+            × StandsFor V.zero_of V.adds V.opens_by V.Acc.seen_of w self.old }
+        ensures stands { (w : World) → C.stands cells.now w self.old.me
+            → StandsFor V.zero_of V.adds V.opens_by V.Acc.seen_of w self.old
+            → StandsFor V.zero_of V.adds V.opens_by V.Acc.seen_of w self.new }
         ensures same { IsSameWalk self.old self.new }
         ensures given { (self.new.slots ≡ self.old.slots) × (self.new.given ≡ self.old.given) }
-        ensures ok { OnOk result ((self.new.started ≡ true) × (self.new.advanced ≡ false) × (self.new.starved ≡ false)) }
-        ensures err { OnErr result ((self.new.started ≡ self.old.started) × (self.new.starved ≡ true)) }
+        ensures ok { OnOk result
+            ((self.new.started ≡ true) × (self.new.advanced ≡ false) × (self.new.starved ≡ false)) }
+        ensures err { OnErr result
+            ((self.new.started ≡ self.old.started) × (self.new.starved ≡ true)) }
         ensures starved { self.old.starved ≡ true → IsErr result }
     {
         let _ = cells;
@@ -104,16 +135,32 @@ impl<V: Visit> Walk<V> {
     /// want of memory.
     pub fn advance<C: Cells>(&mut self, cells: &C) -> Result<Progress, AllocError>
         requires started { self.old.starved ≡ false → self.old.started ≡ true }
-        requires fits { (w : World) × C.stands cells.now w self.old.me × StandsFor V.zero_of V.adds V.opens_by V.Acc.seen_of w self.old }
-        ensures stands { (w : World) → C.stands cells.now w self.old.me → StandsFor V.zero_of V.adds V.opens_by V.Acc.seen_of w self.old → StandsFor V.zero_of V.adds V.opens_by V.Acc.seen_of w self.new }
+        requires fits { (w : World) × C.stands cells.now w self.old.me
+            × StandsFor V.zero_of V.adds V.opens_by V.Acc.seen_of w self.old }
+        ensures stands { (w : World) → C.stands cells.now w self.old.me
+            → StandsFor V.zero_of V.adds V.opens_by V.Acc.seen_of w self.old
+            → StandsFor V.zero_of V.adds V.opens_by V.Acc.seen_of w self.new }
         ensures same { IsSameWalk self.old self.new }
-        ensures given { (self.new.given ≡ self.old.given) × (given_of self.new ≡ given_of self.old) }
+        ensures given { (self.new.given ≡ self.old.given)
+            × (given_of self.new ≡ given_of self.old) }
         ensures extends { Extends self.old.slots self.new.slots }
-        ensures ok { OnOk result ((self.new.started ≡ true) × (self.new.advanced ≡ true) × (self.new.starved ≡ false)) }
+        ensures ok { OnOk result
+            ((self.new.started ≡ true) × (self.new.advanced ≡ true) × (self.new.starved ≡ false)) }
         ensures progress { IfOk result (λ p. IsProgress p self.new.pairs) }
-        ensures waits { OnOk result ((w : World) → C.stands cells.now w self.old.me → StandsFor V.zero_of V.adds V.opens_by V.Acc.seen_of w self.old → All (λ p. Waits (meaning V.zero_of V.adds V.opens_by V.Acc.seen_of self.new.visit) w self.new.me self.new.piece self.new.slots p × (answer_of self.new p.rec.key ≡ None)) (pairs_in w self.new.pairs)) }
-        ensures newly { OnOk result ((w : World) → C.stands cells.now w self.old.me → StandsFor V.zero_of V.adds V.opens_by V.Acc.seen_of w self.old → All (IsNewAsk self.old.advanced w self.old.slots self.old.pairs) (drop (length self.old.slots) self.new.slots)) }
-        ensures err { OnErr result ((self.new.started ≡ self.old.started) × (self.new.starved ≡ true)) }
+        ensures waits { OnOk result
+            ((w : World) → C.stands cells.now w self.old.me
+            → StandsFor V.zero_of V.adds V.opens_by V.Acc.seen_of w self.old
+            → All
+            (λ p. Waits (meaning V.zero_of V.adds V.opens_by V.Acc.seen_of self.new.visit)
+            w self.new.me self.new.piece self.new.slots p
+            × (answer_of self.new p.rec.key ≡ None)) (pairs_in w self.new.pairs)) }
+        ensures newly { OnOk result
+            ((w : World) → C.stands cells.now w self.old.me
+            → StandsFor V.zero_of V.adds V.opens_by V.Acc.seen_of w self.old
+            → All (IsNewAsk self.old.advanced w self.old.slots self.old.pairs)
+            (drop (length self.old.slots) self.new.slots)) }
+        ensures err { OnErr result
+            ((self.new.started ≡ self.old.started) × (self.new.starved ≡ true)) }
         ensures starved { self.old.starved ≡ true → IsErr result }
     {
         if self.starved {
@@ -153,12 +200,21 @@ impl<V: Visit> Walk<V> {
     /// The next cell that became asked and was not yet given by this call; None exactly where there
     /// is none. It takes no memory.
     pub fn asked(&mut self) -> Option<Ask>
-        ensures some { IfSome result (λ a. (given_of self.new ≡ given_of self.old ++ a.key ∷ []) × (Contains (given_of self.old) a.key → ⊥)) }
-        ensures needed { IfSome result (λ a. (w : World) → StandsFor V.zero_of V.adds V.opens_by V.Acc.seen_of w self.old → IsOwner w a.owner a.key × Needs (V.opens_by self.old.visit) w self.old.me a.key × (IsBranch w a.owner a.key ⊎ IsSome (answer_of self.old (parent a.key)))) }
-        ensures remote { IfSome result (λ a. (w : World) → StandsFor V.zero_of V.adds V.opens_by V.Acc.seen_of w self.old → IsRemote w self.old.me a.owner a.key) }
+        ensures some { IfSome result
+            (λ a. (given_of self.new ≡ given_of self.old ++ a.key ∷ [])
+            × (Contains (given_of self.old) a.key → ⊥)) }
+        ensures needed { IfSome result
+            (λ a. (w : World) → StandsFor V.zero_of V.adds V.opens_by V.Acc.seen_of w self.old
+            → IsOwner w a.owner a.key × Needs (V.opens_by self.old.visit) w self.old.me a.key
+            × (IsBranch w a.owner a.key ⊎ IsSome (answer_of self.old (parent a.key)))) }
+        ensures remote { IfSome result
+            (λ a. (w : World) → StandsFor V.zero_of V.adds V.opens_by V.Acc.seen_of w self.old
+            → IsRemote w self.old.me a.owner a.key) }
         ensures none { IsNone result ↔ (given_of self.old ≡ asked_keys self.old.slots) }
         ensures unchanged { IsNone result → self.new ≡ self.old }
-        ensures stands { (w : World) → StandsFor V.zero_of V.adds V.opens_by V.Acc.seen_of w self.old → StandsFor V.zero_of V.adds V.opens_by V.Acc.seen_of w self.new }
+        ensures stands { (w : World)
+            → StandsFor V.zero_of V.adds V.opens_by V.Acc.seen_of w self.old
+            → StandsFor V.zero_of V.adds V.opens_by V.Acc.seen_of w self.new }
         ensures same { IsSameWalk self.old self.new × IsSameStage self.old self.new }
     {
         if self.given < self.asks.len() {
@@ -175,9 +231,14 @@ impl<V: Visit> Walk<V> {
     pub fn supply(&mut self, item: Answered)
         requires given { Contains (given_of self.old) item.key }
         requires absent { answer_of self.old item.key ≡ None }
-        requires fits { (w : World) × StandsFor V.zero_of V.adds V.opens_by V.Acc.seen_of w self.old × (item.answer ≡ true_answer w item.key) }
-        ensures stands { (w : World) → StandsFor V.zero_of V.adds V.opens_by V.Acc.seen_of w self.old → item.answer ≡ true_answer w item.key → StandsFor V.zero_of V.adds V.opens_by V.Acc.seen_of w self.new }
-        ensures value { self.new ≡ record self.old { slots = filled self.old.slots item.key item.answer } }
+        requires fits { (w : World) × StandsFor V.zero_of V.adds V.opens_by V.Acc.seen_of w self.old
+            × (item.answer ≡ true_answer w item.key) }
+        ensures stands { (w : World)
+            → StandsFor V.zero_of V.adds V.opens_by V.Acc.seen_of w self.old
+            → item.answer ≡ true_answer w item.key
+            → StandsFor V.zero_of V.adds V.opens_by V.Acc.seen_of w self.new }
+        ensures value { self.new
+            ≡ record self.old { slots = filled self.old.slots item.key item.answer } }
         ensures there { answer_of self.new item.key ≡ Some item.answer }
         ensures others { (k : ℕ) → k ≢ item.key → answer_of self.new k ≡ answer_of self.old k }
         ensures given { given_of self.new ≡ given_of self.old }
@@ -190,7 +251,8 @@ impl<V: Visit> Walk<V> {
     /// Whether the walk was started and no pair is left. A starved walk is never done. It takes no
     /// memory.
     pub fn done(&self) -> bool
-        ensures value { IsTrue result ↔ ((self.now.started ≡ true) × (self.now.starved ≡ false) × (self.now.pairs ≡ [])) }
+        ensures value { IsTrue result
+            ↔ ((self.now.started ≡ true) × (self.now.starved ≡ false) × (self.now.pairs ≡ [])) }
     {
         self.started && !self.starved && self.left == 0
     }
@@ -198,10 +260,30 @@ impl<V: Visit> Walk<V> {
     /// What the walk gives once it is done.
     pub fn into_parts(self) -> Result<WalkResult<V::Acc>, AllocError>
         requires done { (self.started ≡ true) × (self.starved ≡ false) × (self.pairs ≡ []) }
-        ensures folds { IfOk result (λ r. (w : World) → StandsFor V.zero_of V.adds V.opens_by V.Acc.seen_of w self → r.accs.items ≡ map (fold_in (meaning V.zero_of V.adds V.opens_by V.Acc.seen_of self.visit) w) self.piece) }
-        ensures opened { IfOk result (λ r. (w : World) → StandsFor V.zero_of V.adds V.opens_by V.Acc.seen_of w self → r.opened ≡ sum_by (λ b. length (opened_by (meaning V.zero_of V.adds V.opens_by V.Acc.seen_of self.visit) w b)) self.piece) }
-        ensures asks { IfOk result (λ r. (w : World) → StandsFor V.zero_of V.adds V.opens_by V.Acc.seen_of w self → r.asks ≡ length (needed (V.opens_by self.visit) w self.me)) }
-        ensures cells { IfOk result (λ r. (w : World) → StandsFor V.zero_of V.adds V.opens_by V.Acc.seen_of w self → (k : ℕ) → Contains r.cells k ↔ ((b : BodyValue) × Contains self.piece b × Contains (opened_by (meaning V.zero_of V.adds V.opens_by V.Acc.seen_of self.visit) w b) k)) }
+        ensures folds { IfOk result
+            (λ r. (w : World) → StandsFor V.zero_of V.adds V.opens_by V.Acc.seen_of w self
+            → r.accs.items
+            ≡ map
+            (fold_in (meaning V.zero_of V.adds V.opens_by V.Acc.seen_of self.visit) w)
+            self.piece) }
+        ensures opened { IfOk result
+            (λ r. (w : World) → StandsFor V.zero_of V.adds V.opens_by V.Acc.seen_of w self
+            → r.opened
+            ≡ sum_by
+            (λ b. length
+            (opened_by
+            (meaning V.zero_of V.adds V.opens_by V.Acc.seen_of self.visit) w
+            b)) self.piece) }
+        ensures asks { IfOk result
+            (λ r. (w : World) → StandsFor V.zero_of V.adds V.opens_by V.Acc.seen_of w self
+            → r.asks ≡ length (needed (V.opens_by self.visit) w self.me)) }
+        ensures cells { IfOk result
+            (λ r. (w : World) → StandsFor V.zero_of V.adds V.opens_by V.Acc.seen_of w self → (k : ℕ)
+            → Contains r.cells k
+            ↔ ((b : BodyValue) × Contains self.piece b
+            × Contains
+            (opened_by (meaning V.zero_of V.adds V.opens_by V.Acc.seen_of self.visit)
+            w b) k)) }
         ensures ascending { IfOk result (λ r. IsStrictlyIncreasing r.cells) }
     {
         let cells = self.tally.keys(self.alloc)?;

@@ -26,7 +26,7 @@ pub fn centre(c: &CellRec) -> [u32; 3]
 ///
 /// The test is strict, so a cell at equality is opened, and a cell that contains the body is always
 /// opened. It compares whole numbers exactly, takes no memory and divides nothing.
-#[tactic(auto, using(crate::proofs::Hints::on_accepts), unfolding(hot_model::specs::Kernel::accepts))]
+#[tactic(auto, using(crate::proofs::Hints::on_accepts), unfolding(hot_model::specs::Kernel::accepts),)]
 #[inline]
 pub fn accepts(b: &Body, c: &CellRec, ratio: Ratio) -> bool
     requires not_empty { 0 < c.now.count }

@@ -74,7 +74,7 @@ fn rest_of(mass: u64, c: u32, s: u128) -> u64
 
 /// The sum of mass times two offsets from the centre, by what its sum for one axis is more than at
 /// the centre.
-#[tactic(auto, using(crate::proofs::Hints::on_spread), unfolding(hot_model::specs::Second::spread_along))]
+#[tactic(auto, using(crate::proofs::Hints::on_spread), unfolding(hot_model::specs::Second::spread_along),)]
 #[inline(always)]
 fn spread_along(mass: u64, c: u32, d: u32, s: u128, t: u128, q: u128) -> i128
     requires mass_in { mass ≤ max_all_mass }

@@ -84,7 +84,7 @@ pub(crate) fn toward(p: u32, c: u32, size: u64) -> i128
 }
 
 /// One component of the pull, by a division.
-#[tactic(auto, using(crate::proofs::Hints::on_along), unfolding(hot_model::specs::Kernel::pull_along))]
+#[tactic(auto, using(crate::proofs::Hints::on_along), unfolding(hot_model::specs::Kernel::pull_along),)]
 #[cold]
 #[inline(never)]
 fn pull_along(p: u32, c: u32, mass: u64, by: u128) -> i128

@@ -31,7 +31,7 @@ fn squared_side(key: u64) -> u64
 }
 
 /// One component of the direction, in units of 2^-20, by the scaled root of the squared distance.
-#[tactic(auto, using(crate::proofs::Hints::on_heading), unfolding(hot_model::specs::Second::heading_along))]
+#[tactic(auto, using(crate::proofs::Hints::on_heading), unfolding(hot_model::specs::Second::heading_along),)]
 #[inline(always)]
 fn heading_along(p: u32, c: u32, s: u64, of: Inverses) -> i128
     requires p_in { p < 2 ^ fine_bits }

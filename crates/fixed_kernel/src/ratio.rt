@@ -26,7 +26,8 @@ impl Model for Ratio {
 
     ghost view = { λ r. record { num = r.num; den = r.den } };
 
-    ghost invariant = { λ r. (r.num ≤ max_ratio) × (1 ≤ r.den) × (r.den ≤ max_ratio) × (r.reach ≡ reach_of r.num r.den) };
+    ghost invariant = { λ r. (r.num ≤ max_ratio) × (1 ≤ r.den) × (r.den ≤ max_ratio)
+        × (r.reach ≡ reach_of r.num r.den) };
 
     ghost inverse = { λ v. record { num = v.num; den = v.den; reach = reach_of v.num v.den } };
 }

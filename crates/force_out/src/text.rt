@@ -28,7 +28,8 @@ fn all_lines<O: Sink>(out: &mut O, idents: &[i128], forces: &[Acc3]) -> Result<(
     requires unfailed { O.faults out.old ≡ 0 }
     requires paired { length idents.now ≡ length forces.now }
     ensures cause { FailsExactly (O.faults out.old) (O.faults out.new) result }
-    ensures text { Writes (O.written out.old) (O.written out.new) result (body_lines idents.now forces.now) }
+    ensures text { Writes (O.written out.old) (O.written out.new) result
+        (body_lines idents.now forces.now) }
 {
     for (i, force) in forces.iter().enumerate() {
         body_line(out, idents[i], force)?;
@@ -60,7 +61,8 @@ pub fn force_text<O: Sink>(out: &mut O, idents: &[i128], forces: &[Acc3]) -> Res
     requires paired { length idents.now ≡ length forces.now }
     requires idents { All IsIdent idents.now }
     ensures cause { FailsExactly (O.faults out.old) (O.faults out.new) result }
-    ensures text { Writes (O.written out.old) (O.written out.new) result (forces_text idents.now forces.now) }
+    ensures text { Writes (O.written out.old) (O.written out.new) result
+        (forces_text idents.now forces.now) }
 {
     write_all(out, b"# hot forces 1\n")?;
     all_lines(out, idents, forces)?;

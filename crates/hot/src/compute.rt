@@ -8,7 +8,8 @@ ghost use Rattle.body_maker.specs.Made.{made_set};
 ghost use Rattle.hot_words.specs.Commands.{job_value};
 ghost use Rattle.hot.specs.Runs.{WireUse, Wired, log_of};
 ghost use Rattle.hot.specs.Texts.{sample_of};
-ghost use Rattle.hot.specs.Prepared.{IsWalkOf, WalkLeaves, walk_report, IsRunOf, AreForcesOf, ComputeLeaves};
+ghost use Rattle.hot.specs.Prepared.{IsWalkOf, WalkLeaves, walk_report, IsRunOf, AreForcesOf};
+ghost use Rattle.hot.specs.Prepared.{ComputeLeaves};
 
 use crate::answer::Forces;
 use body_maker::sample_bodies;
@@ -46,7 +47,8 @@ fn sharing_of(job: &Job<'_>) -> Sharing
 
 /// The visit of a run.
 fn visit_of(job: &Job<'_>) -> ForceVisit
-    ensures value { result ≡ record { ratio = job.now.ratio; eps = job.now.eps; second = job.now.moments == 2 } }
+    ensures value { result
+        ≡ record { ratio = job.now.ratio; eps = job.now.eps; second = job.now.moments == 2 } }
 {
     if job.moments != 2 {
         return ForceVisit::new(job.ratio, job.eps);

@@ -1,5 +1,6 @@
 // A sink in memory, which takes so many bytes at a time and has room for so many.
-ghost use Rattle.std.specs.Prelude.{◌≡◌, ◌+◌, ◌-◌, ◌≤◌, ◌<◌, ◌++◌, ◌↔◌, min, [], length, take, IsErr, IfOk, OnErr};
+ghost use Rattle.std.specs.Prelude.{◌≡◌, ◌+◌, ◌-◌, ◌≤◌, ◌<◌, ◌++◌, ◌↔◌, min, [], length, take};
+ghost use Rattle.std.specs.Prelude.{IsErr, IfOk, OnErr};
 
 use crate::limits::MAX_ROOM;
 use crate::{Failed, Sink};
@@ -24,9 +25,15 @@ impl Model for MemSink {
 
     ghost Value = { MemPage };
 
-    ghost view = { λ s. record { bytes = s.bytes.items; chunk = s.chunk; room = s.room; faults = s.faults } };
+    ghost view = { λ s. record {
+      bytes = s.bytes.items;
+      chunk = s.chunk;
+      room = s.room;
+      faults = s.faults;
+    } };
 
-    ghost invariant = { λ s. (1 ≤ s.chunk) × (vec_len s.bytes ≤ s.room) × (s.room ≤ vec_capacity s.bytes) };
+    ghost invariant = { λ s. (1 ≤ s.chunk) × (vec_len s.bytes ≤ s.room)
+        × (s.room ≤ vec_capacity s.bytes) };
 }
 
 impl MemSink {
@@ -36,7 +43,8 @@ impl MemSink {
     pub fn new(alloc: Global, chunk: usize, room: u64) -> Result<MemSink, AllocError>
         requires chunk { 1 ≤ chunk }
         requires room { room ≤ MAX_ROOM }
-        ensures value { IfOk result (λ s. s ≡ record { bytes = []; chunk = chunk; room = room; faults = 0 }) }
+        ensures value { IfOk result
+            (λ s. s ≡ record { bytes = []; chunk = chunk; room = room; faults = 0 }) }
     {
         let room = room as usize;
         Ok(MemSink {
@@ -68,9 +76,13 @@ impl Sink for MemSink {
         requires some { 0 < length bytes.now }
         requires unfailed { self.old.faults ≡ 0 }
         ensures full { IsErr result ↔ (length self.old.bytes ≡ self.old.room) }
-        ensures count { IfOk result (λ n. n ≡ min (length bytes.now) (min self.old.chunk (self.old.room - length self.old.bytes))) }
+        ensures count { IfOk result
+            (λ n. n
+            ≡ min (length bytes.now)
+            (min self.old.chunk (self.old.room - length self.old.bytes))) }
         ensures some { IfOk result (λ n. 0 < n) }
-        ensures ok { IfOk result (λ n. self.new ≡ record self.old { bytes = self.old.bytes ++ take n bytes.now }) }
+        ensures ok { IfOk result
+            (λ n. self.new ≡ record self.old { bytes = self.old.bytes ++ take n bytes.now }) }
         ensures err { OnErr result (self.new ≡ record self.old { faults = self.old.faults + 1 }) }
     {
         let room = self.room - self.bytes.len();

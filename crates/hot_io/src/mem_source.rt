@@ -1,6 +1,9 @@
 // Files in memory, given so many bytes at a time, with one place at which reads fail.
-ghost use Rattle.std.specs.Prelude.{◌≡◌, ◌+◌, ◌-◌, ◌≤◌, ◌<◌, ◌==◌, ◌++◌, ◌↔◌, min, [], length, take, drop, IsOk, IsErr, IfOk, OnOk, OnErr, IsSome, if◌then◌else◌, is_some, position};
-ghost use Rattle.hot_io.specs.MemSource.{is_named, file_of, PutsFile, bytes_left, read_size, bytes_at};
+ghost use Rattle.std.specs.Prelude.{◌≡◌, ◌+◌, ◌-◌, ◌≤◌, ◌<◌, ◌==◌, ◌++◌, ◌↔◌, min, [], length};
+ghost use Rattle.std.specs.Prelude.{take, drop, IsOk, IsErr, IfOk, OnOk, OnErr, IsSome};
+ghost use Rattle.std.specs.Prelude.{if◌then◌else◌, is_some, position};
+ghost use Rattle.hot_io.specs.MemSource.{is_named, file_of, PutsFile, bytes_left, read_size};
+ghost use Rattle.hot_io.specs.MemSource.{bytes_at};
 
 use crate::limits::MAX_OPENS;
 use crate::{Failed, Source};
@@ -80,7 +83,8 @@ fn give(files: &[NamedFile], place: Place, most: usize, buf: &mut [u8]) -> usize
     requires room { most ≤ length buf.old }
     ensures count { result ≡ min most (length (drop place.at (bytes_at files.now place.file))) }
     ensures within { place.at + result ≤ length (bytes_at files.now place.file) }
-    ensures bytes { buf.new ≡ take result (drop place.at (bytes_at files.now place.file)) ++ drop result buf.old }
+    ensures bytes { buf.new
+        ≡ take result (drop place.at (bytes_at files.now place.file)) ++ drop result buf.old }
 {
     let file = &files[place.file];
     let rest = &file.bytes[place.at..];
@@ -97,7 +101,17 @@ impl MemSource {
     /// `chunk` is at least 1. The error is want of memory alone.
     pub fn new(alloc: Global, chunk: usize) -> Result<MemSource, AllocError>
         requires chunk { 1 ≤ chunk }
-        ensures value { IfOk result (λ s. s ≡ record { files = []; chunk = chunk; stop = None; given = 0; left = None; opens = 0; faults = 0 }) }
+        ensures value { IfOk result
+            (λ s. s
+            ≡ record {
+              files = [];
+              chunk = chunk;
+              stop = None;
+              given = 0;
+              left = None;
+              opens = 0;
+              faults = 0;
+            }) }
     {
         Ok(MemSource {
             alloc,
@@ -199,13 +213,15 @@ impl Source for MemSource {
         requires room { 0 < length buf.old }
         ensures stopped { IsErr result ↔ (self.old.stop ≡ Some self.old.given) }
         ensures count { IfOk result (λ n. n ≡ read_size self.old (length buf.old)) }
-        ensures bytes { IfOk result (λ n. buf.new ≡ take n (bytes_left self.old) ++ drop n buf.old) }
+        ensures bytes { IfOk result
+            (λ n. buf.new ≡ take n (bytes_left self.old) ++ drop n buf.old) }
         ensures end { IfOk result (λ n. (n ≡ 0) ↔ (bytes_left self.old ≡ [])) }
         ensures ok { IfOk result (λ n. self.new ≡ record self.old {
           left = (if n == 0 then None else Some (drop n (bytes_left self.old)));
           given = self.old.given + n;
         }) }
-        ensures err { OnErr result ((self.new ≡ record self.old { faults = self.old.faults + 1 }) × (buf.new ≡ buf.old)) }
+        ensures err { OnErr result
+            ((self.new ≡ record self.old { faults = self.old.faults + 1 }) × (buf.new ≡ buf.old)) }
     {
         let Some(place) = self.place else {
             unreachable!()

@@ -1,5 +1,6 @@
 // A source of files and a sink of bytes, by what is asked of them.
-ghost use Rattle.std.specs.Prelude.{◌≡◌, ◌+◌, ◌<◌, ◌≤◌, ◌==◌, Bool, true, false, not, List, ℕ, length, IfOk, IfSome, OnOk, OnErr, Option, Some};
+ghost use Rattle.std.specs.Prelude.{◌≡◌, ◌+◌, ◌<◌, ◌≤◌, ◌==◌, Bool, true, false, not, List, ℕ};
+ghost use Rattle.std.specs.Prelude.{length, IfOk, IfSome, OnOk, OnErr, Option, Some};
 ghost use Rattle.std.specs.Io.{ReadsAtMost};
 ghost use Rattle.std.specs.Io.KnownBytes.{ReadConsumes, WriteAppends};
 ghost use Rattle.hot_io.specs.Faults.{FailsExactly};
@@ -49,7 +50,8 @@ pub trait Source {
         ensures names { allows self.new ≡ allows self.old }
 
         ensures opened { OnOk result (is_open self.new ≡ true) }
-        ensures all { OnOk result (IfSome (file self.old name.now) (λ bytes. left self.new ≡ Some bytes)) }
+        ensures all { OnOk result
+            (IfSome (file self.old name.now) (λ bytes. left self.new ≡ Some bytes)) }
 
         ensures stays_closed { OnErr result (is_open self.new ≡ is_open self.old) }
         ensures err { OnErr result (left self.new ≡ left self.old) };

@@ -42,8 +42,8 @@ pub fn write_pieces<K: Sink>(sink: &mut K, pieces: &[&[u8]]) -> Result<(), Faile
 /// At `Ok` the gain is the whole text, at `Failed` a front of it with the fault.
 pub fn write_text<K: Sink>(sink: &mut K, pieces: &[&[u8]]) -> Result<(), Failed>
     requires unfailed { K.faults sink.old ≡ 0 }
-    ensures gain { Tells (K.written sink.old) (K.written sink.new) (K.faults sink.old) (K.faults sink.new) result
-        (joined (map (λ piece. piece.now) pieces.now)) }
+    ensures gain { Tells (K.written sink.old) (K.written sink.new) (K.faults sink.old)
+        (K.faults sink.new) result (joined (map (λ piece. piece.now) pieces.now)) }
 {
     write_pieces(sink, pieces)
 }

@@ -30,9 +30,17 @@ impl Model for Body {
 
     ghost view = { λ b. record { x = b.x; y = b.y; z = b.z; mass = b.mass; row = b.row } };
 
-    ghost invariant = { λ b. (b.x < 2 ^ fine_bits) × (b.y < 2 ^ fine_bits) × (b.z < 2 ^ fine_bits) × (1 ≤ b.mass) × (b.mass ≤ max_body_mass) × (b.key ≡ place_key b.x b.y b.z) };
+    ghost invariant = { λ b. (b.x < 2 ^ fine_bits) × (b.y < 2 ^ fine_bits) × (b.z < 2 ^ fine_bits)
+        × (1 ≤ b.mass) × (b.mass ≤ max_body_mass) × (b.key ≡ place_key b.x b.y b.z) };
 
-    ghost inverse = { λ v. record { x = v.x; y = v.y; z = v.z; mass = v.mass; row = v.row; key = place_key v.x v.y v.z } };
+    ghost inverse = { λ v. record {
+      x = v.x;
+      y = v.y;
+      z = v.z;
+      mass = v.mass;
+      row = v.row;
+      key = place_key v.x v.y v.z;
+    } };
 }
 
 /// The Morton key of a place in fine units (each coordinate below 2^29), digit by digit: 1, and
@@ -53,8 +61,11 @@ pub fn place_key(x: u32, y: u32, z: u32) -> u64
 /// The body at a place in fine units. None exactly where a coordinate is 2^29 or more, or the mass
 /// is not 1 to 4,194,304. It takes no memory.
 pub fn body_of(x: u32, y: u32, z: u32, mass: u32, row: u32) -> Option<Body>
-    ensures in_range { IsSome result ↔ ((x < 2 ^ fine_bits) × (y < 2 ^ fine_bits) × (z < 2 ^ fine_bits) × (1 ≤ mass) × (mass ≤ max_body_mass)) }
-    ensures value { IfSome result (λ b. b ≡ record { x = x; y = y; z = z; mass = mass; row = row }) }
+    ensures in_range { IsSome result
+        ↔ ((x < 2 ^ fine_bits) × (y < 2 ^ fine_bits) × (z < 2 ^ fine_bits) × (1 ≤ mass)
+        × (mass ≤ max_body_mass)) }
+    ensures value { IfSome result
+        (λ b. b ≡ record { x = x; y = y; z = z; mass = mass; row = row }) }
 {
     let end = 1 << FINE_BITS;
     if x < end && y < end && z < end && 1 <= mass && mass <= MAX_BODY_MASS {

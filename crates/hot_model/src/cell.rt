@@ -42,11 +42,30 @@ impl Model for CellRec {
 
     ghost Value = { CellValue };
 
-    ghost view = { λ c. cell_of c.key c.count c.mass c.sx c.sy c.sz c.sxx c.syy c.szz c.sxy c.sxz c.syz };
+    ghost view = { λ c. cell_of c.key c.count c.mass c.sx c.sy c.sz c.sxx c.syy c.szz c.sxy c.sxz
+        c.syz };
 
-    ghost invariant = { λ c. IsCellRecord (cell_of c.key c.count c.mass c.sx c.sy c.sz c.sxx c.syy c.szz c.sxy c.sxz c.syz) × (c.mx ≡ c.sx / c.mass) × (c.my ≡ c.sy / c.mass) × (c.mz ≡ c.sz / c.mass) };
+    ghost invariant = { λ c. IsCellRecord
+        (cell_of c.key c.count c.mass c.sx c.sy c.sz c.sxx c.syy c.szz c.sxy c.sxz c.syz)
+        × (c.mx ≡ c.sx / c.mass) × (c.my ≡ c.sy / c.mass) × (c.mz ≡ c.sz / c.mass) };
 
-    ghost inverse = { λ v. record { key = v.key; count = v.count; mass = v.mass; sx = v.sx; sy = v.sy; sz = v.sz; sxx = v.sxx; syy = v.syy; szz = v.szz; sxy = v.sxy; sxz = v.sxz; syz = v.syz; mx = v.sx / v.mass; my = v.sy / v.mass; mz = v.sz / v.mass } };
+    ghost inverse = { λ v. record {
+      key = v.key;
+      count = v.count;
+      mass = v.mass;
+      sx = v.sx;
+      sy = v.sy;
+      sz = v.sz;
+      sxx = v.sxx;
+      syy = v.syy;
+      szz = v.szz;
+      sxy = v.sxy;
+      sxz = v.sxz;
+      syz = v.syz;
+      mx = v.sx / v.mass;
+      my = v.sy / v.mass;
+      mz = v.sz / v.mass;
+    } };
 }
 
 /// One coordinate of a centre, or 0 where there is no mass.
@@ -121,7 +140,8 @@ impl Model for Acc3 {
 
     ghost view = { λ a. record { seen = a.seen; ax = a.ax; ay = a.ay; az = a.az } };
 
-    ghost invariant = { λ a. (a.seen ≤ max_all_mass) × (nat_abs a.ax ≤ a.seen * 2 ^ 40) × (nat_abs a.ay ≤ a.seen * 2 ^ 40) × (nat_abs a.az ≤ a.seen * 2 ^ 40) };
+    ghost invariant = { λ a. (a.seen ≤ max_all_mass) × (nat_abs a.ax ≤ a.seen * 2 ^ 40)
+        × (nat_abs a.ay ≤ a.seen * 2 ^ 40) × (nat_abs a.az ≤ a.seen * 2 ^ 40) };
 
     ghost inverse = { λ v. record { seen = v.seen; ax = v.ax; ay = v.ay; az = v.az } };
 }

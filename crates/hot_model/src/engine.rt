@@ -40,6 +40,7 @@ pub trait ForceEngine {
         ensures settings_kept { settings self.new ≡ settings self.old }
         ensures forces { IfOk result (λ v. AreForces (settings self.old) bodies.now v.items) }
         ensures link_left { MatchResult result
-            (λ _. (answers self.old link.old bodies.now self.new link.new) × is_ready self.new link.new)
+            (λ _. (answers self.old link.old bodies.now self.new link.new)
+            × is_ready self.new link.new)
             (λ _. refuses self.old link.old bodies.now self.new link.new) };
 }

@@ -71,7 +71,8 @@ impl<T> Items<T> {
     pub fn push(&mut self, item: T) -> Result<(), AllocError>
     where
         T: Drop,
-        ensures appended_or_unchanged { MatchResult result (λ _. self.new ≡ self.old ++ item ∷ []) (λ _. self.new ≡ self.old) }
+        ensures appended_or_unchanged { MatchResult result (λ _. self.new ≡ self.old ++ item ∷ [])
+            (λ _. self.new ≡ self.old) }
     {
         match self.items.push(item) {
             Ok(()) => Ok(()),
@@ -81,7 +82,8 @@ impl<T> Items<T> {
 
     /// Takes off the last item; None exactly where the list is empty. It takes no memory.
     pub fn pop(&mut self) -> Option<T>
-        ensures last { MatchOption result ((self.old ≡ []) × (self.new ≡ [])) (λ x. self.old ≡ self.new ++ x ∷ []) }
+        ensures last { MatchOption result ((self.old ≡ []) × (self.new ≡ []))
+            (λ x. self.old ≡ self.new ++ x ∷ []) }
     {
         self.items.pop()
     }

@@ -47,16 +47,21 @@ pub trait Visit: Send + Drop {
     fn far(&self, acc: &mut Self::Acc, b: &Body, c: &CellRec) -> Result<(), AllocError>
         requires not_empty { 0 < c.now.count }
         requires room { Self.Acc.seen_of acc.old + c.now.mass ≤ max_all_mass }
-        ensures added_or_unchanged { MatchResult result (λ _. acc.new ≡ adds self.now b.now acc.old (Far c.now)) (λ _. acc.new ≡ acc.old) };
+        ensures added_or_unchanged { MatchResult result
+            (λ _. acc.new ≡ adds self.now b.now acc.old (Far c.now)) (λ _. acc.new ≡ acc.old) };
 
     /// Adds another body. Where memory runs out the accumulator is unchanged.
     fn near(&self, acc: &mut Self::Acc, b: &Body, other: &Body) -> Result<(), AllocError>
         requires room { Self.Acc.seen_of acc.old + other.now.mass ≤ max_all_mass }
-        ensures added_or_unchanged { MatchResult result (λ _. acc.new ≡ adds self.now b.now acc.old (Near other.now)) (λ _. acc.new ≡ acc.old) };
+        ensures added_or_unchanged { MatchResult result
+            (λ _. acc.new ≡ adds self.now b.now acc.old (Near other.now))
+            (λ _. acc.new ≡ acc.old) };
 
     /// Each term adds its mass to what was seen.
-    ghost sees: { (v : Self) (b : BodyValue) (a : Self.Acc) (t : Term) → Self.Acc.seen_of (adds v b a t) ≡ Self.Acc.seen_of a + mass_of_term t };
+    ghost sees: { (v : Self) (b : BodyValue) (a : Self.Acc) (t : Term)
+        → Self.Acc.seen_of (adds v b a t) ≡ Self.Acc.seen_of a + mass_of_term t };
 
     /// Two additions may change places.
-    ghost swaps: { (v : Self) (b : BodyValue) (a : Self.Acc) (s t : Term) → adds v b (adds v b a s) t ≡ adds v b (adds v b a t) s };
+    ghost swaps: { (v : Self) (b : BodyValue) (a : Self.Acc) (s t : Term)
+        → adds v b (adds v b a s) t ≡ adds v b (adds v b a t) s };
 }

@@ -20,7 +20,8 @@ fn make_job<'a>(
     report: bool,
     file: &'a str,
 ) -> Job<'a>
-    requires wide { moments_given name words.now ≡ 2 → (ratio_given name words.now).num ≤ (ratio_given name words.now).den }
+    requires wide { moments_given name words.now ≡ 2
+        → (ratio_given name words.now).num ≤ (ratio_given name words.now).den }
     ensures { job_value result ≡ job_of name words.now sdf report file.now }
 {
     Job {

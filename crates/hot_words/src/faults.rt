@@ -1,7 +1,8 @@
 // The first fault of words behind a command.
 ghost use Rattle.std.specs.Prelude.{◌≡◌, ◌<◌, ◌≤◌, length, IfSome};
 ghost use Rattle.hot_words.specs.Places.{stands_as_value};
-ghost use Rattle.hot_words.specs.Faults.{value_fault, option_fault, file_fault, code_of, fault_listed, ratio_fault, fault_first};
+ghost use Rattle.hot_words.specs.Faults.{value_fault, option_fault, file_fault, code_of};
+ghost use Rattle.hot_words.specs.Faults.{fault_listed, ratio_fault, fault_first};
 
 use crate::places::{ends_words, find_option, has_dashes, word_at};
 use crate::settings::{moments, ratio};

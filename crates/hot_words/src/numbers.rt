@@ -1,7 +1,10 @@
 // Values as the words give them.
-ghost use Rattle.std.specs.Prelude.{◌≡◌, ◌≤◌, ◌↔◌, [], length, IsTrue, EachIndex, slice_index, MatchOption};
+ghost use Rattle.std.specs.Prelude.{◌≡◌, ◌≤◌, ◌↔◌, [], length, IsTrue, EachIndex, slice_index};
+ghost use Rattle.std.specs.Prelude.{MatchOption};
 ghost use Rattle.std.specs.List.{before_first, after_first};
-ghost use Rattle.hot_words.specs.Numbers.{number_of, within, ranks_of, leaf_of, moments_of, bodies_of, softening_of, ratio_of, mail_of, form_of, is_slash};
+ghost use Rattle.hot_words.specs.Numbers.{number_of, within, ranks_of, leaf_of, moments_of};
+ghost use Rattle.hot_words.specs.Numbers.{bodies_of, softening_of, ratio_of, mail_of, form_of};
+ghost use Rattle.hot_words.specs.Numbers.{is_slash};
 
 use fixed_kernel::{Eps, Ratio};
 use hot_model::Mail;
@@ -12,7 +15,8 @@ const MAX_DIGITS: usize = 20;
 
 /// Whether all bytes are ASCII digits.
 fn all_digits(word: &[u8]) -> bool
-    ensures { IsTrue result ↔ EachIndex word.now (λ k. (48 ≤ slice_index word.now k) × (slice_index word.now k ≤ 57)) }
+    ensures { IsTrue result
+        ↔ EachIndex word.now (λ k. (48 ≤ slice_index word.now k) × (slice_index word.now k ≤ 57)) }
 {
     word.iter().all(|byte| b'0' <= *byte && *byte <= b'9')
 }
@@ -88,7 +92,8 @@ pub fn read_eps(word: &str) -> Option<Eps>
 /// The texts on both sides of the first slash.
 fn cut(word: &str) -> Option<(&str, &str)>
     ensures { MatchOption result (after_first is_slash word.now ≡ [])
-        (λ p. (p.0.now ≡ before_first is_slash word.now) × (p.1.now ≡ after_first is_slash word.now)) }
+        (λ p. (p.0.now ≡ before_first is_slash word.now)
+        × (p.1.now ≡ after_first is_slash word.now)) }
 {
     word.split_once('/')
 }

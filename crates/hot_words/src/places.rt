@@ -1,6 +1,7 @@
 // The words by their places.
 ghost use Rattle.std.specs.Prelude.{◌≡◌, ◌<◌, IfSome, MatchOption, Some, None};
-ghost use Rattle.hot_words.specs.Places.{word_of, begins_option, stands_as_value, place_before, value_of, is_last};
+ghost use Rattle.hot_words.specs.Places.{word_of, begins_option, stands_as_value, place_before};
+ghost use Rattle.hot_words.specs.Places.{value_of, is_last};
 
 use crate::table::{CommandName, wants_value};
 use crate::word_list::WordList;
@@ -58,7 +59,8 @@ pub fn find_option(name: CommandName, words: &WordList, option: &str, end: usize
 
 /// The word behind an option, where that is given.
 pub fn find_value<'a>(name: CommandName, words: &'a WordList, option: &str) -> Option<&'a str>
-    ensures { MatchOption result (value_of name words.now option.now ≡ None) (λ value. value_of name words.now option.now ≡ Some value.now) }
+    ensures { MatchOption result (value_of name words.now option.now ≡ None)
+        (λ value. value_of name words.now option.now ≡ Some value.now) }
 {
     match find_option(name, words, option, words.len()) {
         Some(place) => Some(word_at(words, place + 1)),

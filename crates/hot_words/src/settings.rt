@@ -2,7 +2,9 @@
 // default in a command.
 ghost use Rattle.std.specs.Prelude.{◌≡◌, ◌≤◌};
 ghost use Rattle.hot_model.specs.Limits.{max_ranks, max_leaf, max_bodies};
-ghost use Rattle.hot_words.specs.Settings.{ranks_given, ratio_given, softening_given, leaf_given, moments_given, mail_given, sdf_given, report_given, bodies_given, seed_given, file_given};
+ghost use Rattle.hot_words.specs.Settings.{ranks_given, ratio_given, softening_given, leaf_given};
+ghost use Rattle.hot_words.specs.Settings.{moments_given, mail_given, sdf_given, report_given};
+ghost use Rattle.hot_words.specs.Settings.{bodies_given, seed_given, file_given};
 
 use crate::numbers::{
     read_bodies, read_eps, read_form, read_leaf, read_mail, read_moments, read_number, read_ranks,

@@ -2,7 +2,8 @@
 ghost use Rattle.std.specs.Prelude.{◌≡◌};
 ghost use Rattle.std.specs.List.{list_any};
 ghost use Rattle.std.specs.Str.{bytes_eq};
-ghost use Rattle.hot_words.specs.Options.{command_named, run_options, body_options, has_option, takes_value, has_file, is_good};
+ghost use Rattle.hot_words.specs.Options.{command_named, run_options, body_options, has_option};
+ghost use Rattle.hot_words.specs.Options.{takes_value, has_file, is_good};
 
 use crate::numbers::{
     read_bodies, read_eps, read_form, read_leaf, read_mail, read_moments, read_number, read_ranks,

@@ -1,5 +1,6 @@
 // The words after the program's name.
-ghost use Rattle.std.specs.Prelude.{◌≡◌, ◌≤◌, [], ◌∷◌, ◌++◌, length, OnOk, OnErr, MatchOption, Some, slice_get};
+ghost use Rattle.std.specs.Prelude.{◌≡◌, ◌≤◌, [], ◌∷◌, ◌++◌, length, OnOk, OnErr, MatchOption};
+ghost use Rattle.std.specs.Prelude.{Some, slice_get};
 
 use std::alloc::{AllocError, Global};
 use std::marker::Model;
@@ -49,7 +50,8 @@ impl WordList {
 
     /// The word at a place, counted from 0; None exactly past the last. It takes no memory.
     pub fn get(&self, i: usize) -> Option<&str>
-        ensures word { MatchOption result (length self.now ≤ i) (λ word. slice_get self.now i ≡ Some word.now) }
+        ensures word { MatchOption result (length self.now ≤ i)
+            (λ word. slice_get self.now i ≡ Some word.now) }
     {
         match self.words.get(i) {
             Some(word) => Some(word.as_str()),

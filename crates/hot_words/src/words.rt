@@ -21,10 +21,12 @@ use crate::word_list::WordList;
 /// and `--report`. `make` and `sample` have `--bodies N` (0 to 262,144; 1000) and `--seed N` (0). N
 /// is 1 to 20 ASCII digits whose value fits 64 bits.
 pub fn read_words<'a>(words: &'a WordList) -> Result<Command<'a>, WordFault>
-    ensures value { MatchResult result (λ command. command_of words.now ≡ Ok (command_value command))
+    ensures value { MatchResult result
+        (λ command. command_of words.now ≡ Ok (command_value command))
         (λ fault. command_of words.now ≡ Err fault) }
     ensures limits { IfOk result IsWithinLimits }
-    ensures placed { IfErr result (λ fault. fault.code ≢ WordCode.A1 → fault.place < length words.now) }
+    ensures placed { IfErr result
+        (λ fault. fault.code ≢ WordCode.A1 → fault.place < length words.now) }
 {
     let Some(first) = words.get(0) else {
         return Err(WordFault {

@@ -1,4 +1,5 @@
-ghost use Rattle.std.specs.Prelude.{◌≡◌, ◌<◌, ◌≤◌, ◌^◌, ℕ, true, cond, eqb, [], ◌∷◌, ◌++◌, length, map, filter, slice_get, IsTrue, ◌↔◌, IfOk, IfSome};
+ghost use Rattle.std.specs.Prelude.{◌≡◌, ◌<◌, ◌≤◌, ◌^◌, ℕ, true, cond, eqb, [], ◌∷◌, ◌++◌, length};
+ghost use Rattle.std.specs.Prelude.{map, filter, slice_get, IsTrue, ◌↔◌, IfOk, IfSome};
 ghost use Rattle.hot_model.specs.Limits.{max_all_mass, max_level};
 ghost use Rattle.hot_model.specs.Keys.{IsCell};
 ghost use Rattle.hot_model.specs.Keys as keys;

@@ -24,7 +24,13 @@ impl Model for PlainEngine {
 
     ghost Value = { Settings };
 
-    ghost view = { λ e. record { num = e.ratio.num; den = e.ratio.den; eps = e.eps; leaf = e.leaf; second = false } };
+    ghost view = { λ e. record {
+      num = e.ratio.num;
+      den = e.ratio.den;
+      eps = e.eps;
+      leaf = e.leaf;
+      second = false;
+    } };
 
     ghost invariant = { λ e. (1 ≤ e.leaf) × (e.leaf ≤ max_leaf) };
 }
@@ -34,8 +40,18 @@ impl PlainEngine {
     /// least 1), the softening `eps` in fine units (1 to 2^28) and the leaf limit `leaf` (1 to 64);
     /// None exactly where a number is out of its limit. It takes no memory.
     pub fn new(ratio_num: u32, ratio_den: u32, eps: u32, leaf: u32) -> Option<PlainEngine>
-        ensures in_limits { IsSome result ↔ ((ratio_num ≤ max_ratio) × (1 ≤ ratio_den) × (ratio_den ≤ max_ratio) × (1 ≤ eps) × (eps ≤ max_softening) × (1 ≤ leaf) × (leaf ≤ max_leaf)) }
-        ensures settings { IfSome result (λ e. e ≡ record { num = ratio_num; den = ratio_den; eps = eps; leaf = leaf; second = false }) }
+        ensures in_limits { IsSome result
+            ↔ ((ratio_num ≤ max_ratio) × (1 ≤ ratio_den) × (ratio_den ≤ max_ratio) × (1 ≤ eps)
+            × (eps ≤ max_softening) × (1 ≤ leaf) × (leaf ≤ max_leaf)) }
+        ensures settings { IfSome result
+            (λ e. e
+            ≡ record {
+              num = ratio_num;
+              den = ratio_den;
+              eps = eps;
+              leaf = leaf;
+              second = false;
+            }) }
     {
         let ratio = Ratio::new(ratio_num, ratio_den)?;
         let eps = Eps::new(eps)?;

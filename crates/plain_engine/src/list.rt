@@ -13,7 +13,8 @@ fn push_row(bodies: &mut Vec<Body>, row: &[u32; 4]) -> Result<(), AllocError>
     requires rows { RowsCount bodies.old.items }
     requires light { mass_of bodies.old.items ≤ length bodies.old.items * max_body_mass }
     ensures rows { IfOk result (λ _. RowsCount bodies.new.items) }
-    ensures light { IfOk result (λ _. mass_of bodies.new.items ≤ length bodies.new.items * max_body_mass) }
+    ensures light { IfOk result
+        (λ _. mass_of bodies.new.items ≤ length bodies.new.items * max_body_mass) }
     ensures few { IfOk result (λ _. length bodies.new.items ≤ length bodies.old.items + 1) }
 {
     let at = bodies.len() as u32;

@@ -1,7 +1,8 @@
 ghost use Rattle.std.specs.Prelude.{◌≡◌, ◌<◌, ◌≤◌, ◌+◌, ◌^◌, IfOk, length, map};
 ghost use Rattle.hot_model.specs.Limits.{max_all_mass};
 ghost use Rattle.hot_model.specs.Keys.{IsCell};
-ghost use Rattle.hot_model.specs.Trees.{added, terms_of, fold_of as fold_over, mass_of, cell_record, Near, inside as bodies_in};
+ghost use Rattle.hot_model.specs.Trees.{added, terms_of, fold_of as fold_over, mass_of};
+ghost use Rattle.hot_model.specs.Trees.{cell_record, Near, inside as bodies_in};
 
 use crate::cells::inside;
 use hot_model::limits::MAX_LEVEL;
@@ -18,8 +19,10 @@ fn add_listed<V: Visit>(
     acc: &mut V::Acc,
 ) -> Result<(), AllocError>
     requires room { V.Acc.seen_of acc.old + mass_of listed.now ≤ max_all_mass }
-    ensures value { IfOk result (λ _. acc.new ≡ added (V.adds visit.now b.now) acc.old (map Near listed.now)) }
-    ensures seen { IfOk result (λ _. V.Acc.seen_of acc.new ≡ V.Acc.seen_of acc.old + mass_of listed.now) }
+    ensures value { IfOk result
+        (λ _. acc.new ≡ added (V.adds visit.now b.now) acc.old (map Near listed.now)) }
+    ensures seen { IfOk result
+        (λ _. V.Acc.seen_of acc.new ≡ V.Acc.seen_of acc.old + mass_of listed.now) }
 {
     for o in listed {
         visit.near(acc, b, o)?;
@@ -56,8 +59,12 @@ fn walk<V: Visit>(
     requires cell { IsCell cell }
     requires few { length around.now < 2 ^ 32 }
     requires room { V.Acc.seen_of acc.old + mass_of (bodies_in around.now cell) ≤ max_all_mass }
-    ensures value { IfOk result (λ _. acc.new ≡ added (V.adds visit.now b.now) acc.old (terms_of (V.opens_by visit.now b.now) leaf around.now cell)) }
-    ensures seen { IfOk result (λ _. V.Acc.seen_of acc.new ≡ V.Acc.seen_of acc.old + mass_of (bodies_in around.now cell)) }
+    ensures value { IfOk result
+        (λ _. acc.new
+        ≡ added (V.adds visit.now b.now) acc.old
+        (terms_of (V.opens_by visit.now b.now) leaf around.now cell)) }
+    ensures seen { IfOk result
+        (λ _. V.Acc.seen_of acc.new ≡ V.Acc.seen_of acc.old + mass_of (bodies_in around.now cell)) }
 {
     let (kept, rec) = known(alloc, around, cell)?;
     if kept.is_empty() {
@@ -92,7 +99,10 @@ pub fn fold_of<V: Visit>(
 ) -> Result<V::Acc, AllocError>
     requires few { length bodies.now < 2 ^ 32 }
     requires light { mass_of bodies.now ≤ max_all_mass }
-    ensures fold { IfOk result (λ a. a ≡ fold_over (V.adds visit.now b.now) (V.zero_of visit.now) (V.opens_by visit.now b.now) leaf bodies.now) }
+    ensures fold { IfOk result
+        (λ a. a
+        ≡ fold_over (V.adds visit.now b.now) (V.zero_of visit.now) (V.opens_by visit.now b.now)
+        leaf bodies.now) }
 {
     let mut acc = visit.zero(alloc);
     walk(visit, alloc, bodies, leaf, b, 1, &mut acc)?;

@@ -1,4 +1,4 @@
-#![tactic(auto, unfolding(crate::specs::Standing::StandsIn, crate::specs::Seats::seat_of, crate::specs::Seats::visit_of))]
+#![tactic(auto, unfolding(crate::specs::Standing::StandsIn, crate::specs::Seats::seat_of, crate::specs::Seats::visit_of,),)]
 
 ghost use Rattle.std.specs.Prelude.{◌≡◌, ◌<◌, ◌≤◌, ◌↔◌, true, false, IfSome, IfOk, OnOk, OnErr};
 ghost use Rattle.std.specs.Prelude.{IsErr, IsTrue};

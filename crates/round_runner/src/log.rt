@@ -1,5 +1,6 @@
 // The log of a wire.
-ghost use Rattle.std.specs.Prelude.{◌≡◌, ◌∷◌, [], ◌+◌, ◌-◌, ◌≤◌, ◌<◌, length, reverse, slice_get, IfOk, OnOk, OnErr, option_copied};
+ghost use Rattle.std.specs.Prelude.{◌≡◌, ◌∷◌, [], ◌+◌, ◌-◌, ◌≤◌, ◌<◌, length, reverse, slice_get};
+ghost use Rattle.std.specs.Prelude.{IfOk, OnOk, OnErr, option_copied};
 ghost use Rattle.round_runner.specs.Desk.{letters_in, rounds_in};
 
 use crate::Entry;
@@ -20,9 +21,14 @@ impl Model for Log {
 
     ghost Value = { LogView };
 
-    ghost view = { λ l. record { newest_first = reverse l.entries.items; room = vec_capacity l.entries - vec_len l.entries } };
+    ghost view = { λ l. record {
+      newest_first = reverse l.entries.items;
+      room = vec_capacity l.entries - vec_len l.entries;
+    } };
 
-    ghost invariant = { λ l. (l.letters ≡ letters_in (reverse l.entries.items)) × (l.rounds ≡ rounds_in (reverse l.entries.items)) × (l.letters ≤ vec_len l.entries) × (l.rounds ≤ vec_len l.entries) };
+    ghost invariant = { λ l. (l.letters ≡ letters_in (reverse l.entries.items))
+        × (l.rounds ≡ rounds_in (reverse l.entries.items)) × (l.letters ≤ vec_len l.entries)
+        × (l.rounds ≤ vec_len l.entries) };
 }
 
 impl Log {

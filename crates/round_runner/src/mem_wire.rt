@@ -1,10 +1,14 @@
 // A wire in memory.
-ghost use Rattle.std.specs.Prelude.{◌≡◌, ◌++◌, ◌∷◌, [], ◌+◌, ◌-◌, ◌<◌, ◌≤◌, ◌⊎◌, length, map, remove, slice_get, true, if◌then◌else◌, IfOk, OnOk, OnErr, IfSome, OnSome, Some, MatchOption, MatchResult};
+ghost use Rattle.std.specs.Prelude.{◌≡◌, ◌++◌, ◌∷◌, [], ◌+◌, ◌-◌, ◌<◌, ◌≤◌, ◌⊎◌, length, map};
+ghost use Rattle.std.specs.Prelude.{remove, slice_get, true, if◌then◌else◌, IfOk, OnOk, OnErr};
+ghost use Rattle.std.specs.Prelude.{IfSome, OnSome, Some, MatchOption, MatchResult};
 ghost use Rattle.std.specs.List.{position};
 ghost use Rattle.std.specs.VecDeque.{deque_len};
-ghost use Rattle.round_runner.specs.Desk.{letters_in, rounds_in, begun, posted, Takes, turned, rounded};
+ghost use Rattle.round_runner.specs.Desk.{letters_in, rounds_in, begun, posted, Takes, turned};
+ghost use Rattle.round_runner.specs.Desk.{rounded};
 ghost use Rattle.round_runner.specs.Notes.{note_of};
-ghost use Rattle.round_runner.specs.Policies.{new_state, desk_of, mem_eager, seed_of, place_of, more_of, draw_after, without_at, shut_state};
+ghost use Rattle.round_runner.specs.Policies.{new_state, desk_of, mem_eager, seed_of, place_of};
+ghost use Rattle.round_runner.specs.Policies.{more_of, draw_after, without_at, shut_state};
 ghost use Rattle.round_runner.specs.Starving.{is_to_another};
 
 use crate::draw::{drawn, next_state};
@@ -58,9 +62,9 @@ impl Model for MemWire {
       draw = w.draw;
     } };
 
-    ghost invariant = { λ w.
-        (rounds_in w.log.newest_first ≤ letters_in w.log.newest_first + 1)
-        × (length w.waiting.items + letters_in w.log.newest_first + 1 ≤ w.log.room + rounds_in w.log.newest_first) };
+    ghost invariant = { λ w. (rounds_in w.log.newest_first ≤ letters_in w.log.newest_first + 1)
+        × (length w.waiting.items + letters_in w.log.newest_first + 1
+        ≤ w.log.room + rounds_in w.log.newest_first) };
 }
 
 impl MemWire {
@@ -149,7 +153,8 @@ fn more_and_draw(mail: Mail, draw: u64) -> (bool, u64)
 /// How many entries the log may still get: one for each pending letter, and the rounds to come.
 fn entries_to_come(log: &Log, pending: usize) -> Option<usize>
     requires rounds { rounds_in log.now.newest_first ≤ letters_in log.now.newest_first + 1 }
-    ensures count { IfSome result (λ n. n + rounds_in log.now.newest_first ≡ pending + letters_in log.now.newest_first + 1) }
+    ensures count { IfSome result
+        (λ n. n + rounds_in log.now.newest_first ≡ pending + letters_in log.now.newest_first + 1) }
 {
     let rounds = log.letters().checked_add(1)? - log.rounds();
     pending.checked_add(rounds as usize)
@@ -173,7 +178,9 @@ impl Wire for MemWire {
     }
 
     fn post(&mut self, letter: Letter) -> Result<(), PostRefused>
-        ensures posted_or_unchanged { MatchResult result (λ _. desk_of self.new ≡ posted (desk_of self.old) letter) (λ e. (e.letter ≡ letter) × (desk_of self.new ≡ desk_of self.old)) }
+        ensures posted_or_unchanged { MatchResult result
+            (λ _. desk_of self.new ≡ posted (desk_of self.old) letter)
+            (λ e. (e.letter ≡ letter) × (desk_of self.new ≡ desk_of self.old)) }
         ensures draw { self.new.draw ≡ self.old.draw }
     {
         let to_come = entries_to_come(&self.log, self.waiting.len());
@@ -200,10 +207,18 @@ impl Wire for MemWire {
 
     fn take(&mut self) -> Option<Letter>
         requires free { self.old.turn ≡ Turn.Free }
-        ensures taken_or_none { MatchOption result ((self.old.pending ≡ []) × (desk_of self.new ≡ desk_of self.old)) (λ l. Takes (desk_of self.old) l (desk_of self.new)) }
-        ensures place { IfSome result (λ l. slice_get self.old.pending (place_of self.old.mail self.old.draw (length self.old.pending)) ≡ Some l) }
-        ensures order { OnSome result (self.new.pending ≡ remove self.old.pending (place_of self.old.mail self.old.draw (length self.old.pending))) }
-        ensures draw { MatchOption result (self.new.draw ≡ self.old.draw) (λ _. self.new.draw ≡ draw_after self.old.mail self.old.draw) }
+        ensures taken_or_none { MatchOption result
+            ((self.old.pending ≡ []) × (desk_of self.new ≡ desk_of self.old))
+            (λ l. Takes (desk_of self.old) l (desk_of self.new)) }
+        ensures place { IfSome result
+            (λ l. slice_get self.old.pending
+            (place_of self.old.mail self.old.draw (length self.old.pending)) ≡ Some l) }
+        ensures order { OnSome result
+            (self.new.pending
+            ≡ remove self.old.pending
+            (place_of self.old.mail self.old.draw (length self.old.pending))) }
+        ensures draw { MatchOption result (self.new.draw ≡ self.old.draw)
+            (λ _. self.new.draw ≡ draw_after self.old.mail self.old.draw) }
     {
         if self.waiting.is_empty() {
             return None;
@@ -216,7 +231,8 @@ impl Wire for MemWire {
 
     fn more(&mut self) -> bool
         requires used { self.old.turn ≡ Turn.Used }
-        ensures turn { desk_of self.new ≡ turned (desk_of self.old) (if result then Turn.Free else Turn.Shut) }
+        ensures turn { desk_of self.new
+            ≡ turned (desk_of self.old) (if result then Turn.Free else Turn.Shut) }
         ensures eager { mem_eager self.old.mail ≡ true → result ≡ true }
         ensures choice { result ≡ more_of self.old.mail self.old.draw }
         ensures draw { self.new.draw ≡ draw_after self.old.mail self.old.draw }

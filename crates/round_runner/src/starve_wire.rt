@@ -1,6 +1,9 @@
 // A wire in memory that starves one rank.
-ghost use Rattle.std.specs.Prelude.{◌≡◌, ◌⊎◌, ◌≤◌, [], remove, slice_get, true, false, if◌then◌else◌, IfOk, IfSome, OnSome, Some, MatchOption, MatchResult};
-ghost use Rattle.round_runner.specs.Desk.{letters_in, rounds_in, begun, posted, Takes, turned, rounded};
+ghost use Rattle.std.specs.Prelude.{◌≡◌, ◌⊎◌, ◌≤◌, [], remove, slice_get, true, false};
+ghost use Rattle.std.specs.Prelude.{if◌then◌else◌, IfOk, IfSome, OnSome, Some, MatchOption};
+ghost use Rattle.std.specs.Prelude.{MatchResult};
+ghost use Rattle.round_runner.specs.Desk.{letters_in, rounds_in, begun, posted, Takes, turned};
+ghost use Rattle.round_runner.specs.Desk.{rounded};
 ghost use Rattle.round_runner.specs.Starving.{new_starve, never_eager, starve_desk, starve_place};
 
 use crate::wire::Turn;

@@ -1,6 +1,8 @@
 // A wire, by what is asked of it.
-ghost use Rattle.std.specs.Prelude.{◌≡◌, ◌≤◌, ◌⊎◌, [], length, true, if◌then◌else◌, MatchOption, MatchResult};
-ghost use Rattle.round_runner.specs.Desk.{Desk, letters_in, rounds_in, begun, posted, Takes, turned, rounded};
+ghost use Rattle.std.specs.Prelude.{◌≡◌, ◌≤◌, ◌⊎◌, [], length, true, if◌then◌else◌, MatchOption};
+ghost use Rattle.std.specs.Prelude.{MatchResult};
+ghost use Rattle.round_runner.specs.Desk.{Desk, letters_in, rounds_in, begun, posted, Takes};
+ghost use Rattle.round_runner.specs.Desk.{turned, rounded};
 
 use cell_mail::Letter;
 use hot_model::Mail;
@@ -42,7 +44,9 @@ pub trait Wire {
     ///
     /// The error is want of memory alone: it hands the letter back, and the wire is as it was.
     fn post(&mut self, letter: Letter) -> Result<(), PostRefused>
-        ensures posted_or_unchanged { MatchResult result (λ _. desk self.new ≡ posted (desk self.old) letter) (λ e. (e.letter ≡ letter) × (desk self.new ≡ desk self.old)) };
+        ensures posted_or_unchanged { MatchResult result
+            (λ _. desk self.new ≡ posted (desk self.old) letter)
+            (λ e. (e.letter ≡ letter) × (desk self.new ≡ desk self.old)) };
 
     /// How many letters are pending. It takes no memory.
     fn pending(&self) -> usize
@@ -54,13 +58,16 @@ pub trait Wire {
     /// The log has an entry more, and `more` is asked next. It takes no memory.
     fn take(&mut self) -> Option<Letter>
         requires free { (desk self.old).turn ≡ Turn.Free }
-        ensures taken_or_none { MatchOption result (((desk self.old).pending ≡ []) × (desk self.new ≡ desk self.old)) (λ l. Takes (desk self.old) l (desk self.new)) };
+        ensures taken_or_none { MatchOption result
+            (((desk self.old).pending ≡ []) × (desk self.new ≡ desk self.old))
+            (λ l. Takes (desk self.old) l (desk self.new)) };
 
     /// Whether another letter may be taken in this round: the wire's own choice, but always true
     /// under a mail for which it is eager. It takes no memory.
     fn more(&mut self) -> bool
         requires used { (desk self.old).turn ≡ Turn.Used }
-        ensures turn { desk self.new ≡ turned (desk self.old) (if result then Turn.Free else Turn.Shut) }
+        ensures turn { desk self.new
+            ≡ turned (desk self.old) (if result then Turn.Free else Turn.Shut) }
         ensures eager { (desk self.old).eager (desk self.old).mail ≡ true → result ≡ true };
 
     /// Ends a round: the log has an entry more, and the wire is free. Pending letters stay.

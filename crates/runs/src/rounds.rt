@@ -6,7 +6,12 @@ ghost use Rattle.round_runner.specs.declared.wire.Turn.TheVariants as turns;
 ghost use Rattle.rank_core.specs.Standing.{StandsIn, FitsAWorld};
 ghost use Rattle.protocol.specs.Logs.{IsPrompt, taken_since};
 ghost use Rattle.protocol.specs.Joint.{AllWorked, AllQuiet, IsStart, AllFinished, AllNew, IsBegun};
-ghost use Rattle.runs.specs.Running.{seats, ArePlaced, numbers, AllFed, SomeStarved, SameBut, IsEager, IsOverIn, SameMail, Frame, QuietAt, PopsAt, HandsAt, FitAWorld, StepsTo, AllStep, FitsItsRank, IsItsFresh, AreTogether, StayTogether, IsLegalFor, IsComplete, IsInBound, IsFewIfPrompt, HasOneMore, RunSomewhere, RunOn, StaysLegal, Ends};
+ghost use Rattle.runs.specs.Running.{seats, ArePlaced, numbers, AllFed, SomeStarved, SameBut};
+ghost use Rattle.runs.specs.Running.{IsEager, IsOverIn, SameMail, Frame, QuietAt, PopsAt, HandsAt};
+ghost use Rattle.runs.specs.Running.{FitAWorld, StepsTo, AllStep, FitsItsRank, IsItsFresh};
+ghost use Rattle.runs.specs.Running.{AreTogether, StayTogether, IsLegalFor, IsComplete, IsInBound};
+ghost use Rattle.runs.specs.Running.{IsFewIfPrompt, HasOneMore, RunSomewhere, RunOn, StaysLegal};
+ghost use Rattle.runs.specs.Running.{Ends};
 
 use cell_mail::Letter;
 use hot_model::Visit;

@@ -5,7 +5,9 @@ ghost use Rattle.sdf_header.specs.Limits.{max_array_length};
 ghost use Rattle.sdf_header.specs.Tokens.{lex_of, lexeme_of, next, Advances};
 ghost use Rattle.sdf_header.specs.Numbers.{sees_rest};
 ghost use Rattle.sdf_header.specs.Parts.{Gives, name_of};
-ghost use Rattle.sdf_header.specs.Fields.{fields_of, row_of, struct_and_rest, has_field, with_field, length_of, array_at, bracket_in, item_at, items_at, line_at, lines_at, struct_at};
+ghost use Rattle.sdf_header.specs.Fields.{fields_of, row_of, struct_and_rest, has_field};
+ghost use Rattle.sdf_header.specs.Fields.{with_field, length_of, array_at, bracket_in, item_at};
+ghost use Rattle.sdf_header.specs.Fields.{items_at, line_at, lines_at, struct_at};
 
 use crate::document::{Column, Columns, Named, Table};
 use crate::fault::{Fault, FaultKind, Stop};
@@ -39,7 +41,8 @@ fn add_column<'a>(
 ) -> Result<(), Stop>
     requires some { 1 ≤ count }
     requires bound { count ≤ max_array_length }
-    ensures { Gives (λ _. row_of columns.new) result (with_field (row_of columns.old) kind (name_of n.entry) count is_array) }
+    ensures { Gives (λ _. row_of columns.new) result
+        (with_field (row_of columns.old) kind (name_of n.entry) count is_array) }
 {
     let width = columns.width + bytes_of(kind) * count;
     if width > MAX_ROW_BYTES {
@@ -75,7 +78,8 @@ fn array_at<'a>(
     n: Named<'a>,
     bytes: &'a [u8],
 ) -> Result<&'a [u8], Stop>
-    ensures exact { Gives (λ rest. (row_of columns.new, rest.now)) result (array_at (row_of columns.old) kind (name_of n.entry) bytes.now) }
+    ensures exact { Gives (λ rest. (row_of columns.new, rest.now)) result
+        (array_at (row_of columns.old) kind (name_of n.entry) bytes.now) }
     ensures shorter { IfOk result (λ rest. length rest.now ≤ length bytes.now) }
 {
     let l = next(bytes)?;
@@ -102,7 +106,8 @@ fn behind_bracket(bytes: &[u8]) -> Option<&[u8]>
 
 #[tactic(auto, unfolding(crate::specs::Fields::item_at))]
 fn item_at<'a>(columns: &mut Columns<'a>, kind: Kind, bytes: &'a [u8]) -> Result<&'a [u8], Stop>
-    ensures exact { Gives (λ rest. (row_of columns.new, rest.now)) result (item_at (row_of columns.old) kind bytes.now) }
+    ensures exact { Gives (λ rest. (row_of columns.new, rest.now)) result
+        (item_at (row_of columns.old) kind bytes.now) }
     ensures shorter { IfOk result (λ rest. length rest.now < length bytes.now) }
 {
     let n = word_at(bytes)?;
@@ -119,9 +124,10 @@ fn item_at<'a>(columns: &mut Columns<'a>, kind: Kind, bytes: &'a [u8]) -> Result
     Ok(n.rest)
 }
 
-#[tactic(auto, using(crate::proofs::Items::start, crate::proofs::Items::more, crate::proofs::Items::done, crate::proofs::Items::no_sign))]
+#[tactic(auto, using(crate::proofs::Items::start, crate::proofs::Items::more, crate::proofs::Items::done, crate::proofs::Items::no_sign,),)]
 fn items_at<'a>(columns: &mut Columns<'a>, kind: Kind, bytes: &'a [u8]) -> Result<&'a [u8], Stop>
-    ensures exact { Gives (λ rest. (row_of columns.new, rest.now)) result (items_at (suc (length bytes.now)) kind (row_of columns.old) bytes.now) }
+    ensures exact { Gives (λ rest. (row_of columns.new, rest.now)) result
+        (items_at (suc (length bytes.now)) kind (row_of columns.old) bytes.now) }
     ensures shorter { IfOk result (λ rest. length rest.now ≤ length bytes.now) }
 {
     let mut rest = bytes;
@@ -140,17 +146,20 @@ fn items_at<'a>(columns: &mut Columns<'a>, kind: Kind, bytes: &'a [u8]) -> Resul
 
 #[tactic(auto, unfolding(crate::specs::Fields::line_at))]
 fn line_at<'a>(columns: &mut Columns<'a>, l: Lexed<'a>) -> Result<&'a [u8], Stop>
-    ensures exact { Gives (λ rest. (row_of columns.new, rest.now)) result (line_at (row_of columns.old) (lex_of l.entry)) }
-    ensures shorter { (before : ℕ) → Advances l.entry.token (length l.entry.rest.now) before → IfOk result (λ rest. length rest.now < before) }
+    ensures exact { Gives (λ rest. (row_of columns.new, rest.now)) result
+        (line_at (row_of columns.old) (lex_of l.entry)) }
+    ensures shorter { (before : ℕ) → Advances l.entry.token (length l.entry.rest.now) before
+        → IfOk result (λ rest. length rest.now < before) }
 {
     let n = named(l)?;
     let (kind, rest) = type_at(n)?;
     items_at(columns, kind, rest)
 }
 
-#[tactic(auto, using(crate::proofs::Lines::start, crate::proofs::Lines::more, crate::proofs::Lines::done))]
+#[tactic(auto, using(crate::proofs::Lines::start, crate::proofs::Lines::more, crate::proofs::Lines::done),)]
 fn lines_at<'a>(columns: &mut Columns<'a>, bytes: &'a [u8]) -> Result<&'a [u8], Stop>
-    ensures exact { Gives (λ rest. (row_of columns.new, rest.now)) result (lines_at (suc (length bytes.now)) (row_of columns.old) bytes.now) }
+    ensures exact { Gives (λ rest. (row_of columns.new, rest.now)) result
+        (lines_at (suc (length bytes.now)) (row_of columns.old) bytes.now) }
     ensures shorter { IfOk result (λ rest. length rest.now ≤ length bytes.now) }
 {
     let mut rest = bytes;

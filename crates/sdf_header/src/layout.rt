@@ -54,11 +54,60 @@ impl Model for Layout {
 
     ghost Value = { LayoutValue };
 
-    ghost view = { λ l. record { header_len = l.header_len; width = l.width; count = l.count; order = l.order; cube = l.cube; mass_default = l.mass_default; x = l.x; y = l.y; z = l.z; mass = l.mass; ident = l.ident; work = l.work; vx = l.vx; vy = l.vy; vz = l.vz } };
+    ghost view = { λ l. record {
+      header_len = l.header_len;
+      width = l.width;
+      count = l.count;
+      order = l.order;
+      cube = l.cube;
+      mass_default = l.mass_default;
+      x = l.x;
+      y = l.y;
+      z = l.z;
+      mass = l.mass;
+      ident = l.ident;
+      work = l.work;
+      vx = l.vx;
+      vy = l.vy;
+      vz = l.vz;
+    } };
 
-    ghost invariant = { λ l. IsLayout (record { header_len = l.header_len; width = l.width; count = l.count; order = l.order; cube = l.cube; mass_default = l.mass_default; x = l.x; y = l.y; z = l.z; mass = l.mass; ident = l.ident; work = l.work; vx = l.vx; vy = l.vy; vz = l.vz }) };
+    ghost invariant = { λ l. IsLayout
+        (record {
+          header_len = l.header_len;
+          width = l.width;
+          count = l.count;
+          order = l.order;
+          cube = l.cube;
+          mass_default = l.mass_default;
+          x = l.x;
+          y = l.y;
+          z = l.z;
+          mass = l.mass;
+          ident = l.ident;
+          work = l.work;
+          vx = l.vx;
+          vy = l.vy;
+          vz = l.vz;
+        }) };
 
-    ghost inverse = { λ v. record { header_len = v.header_len; width = v.width; count = v.count; order = v.order; cube = v.cube; mass_default = v.mass_default; x = v.x; y = v.y; z = v.z; mass = v.mass; ident = v.ident; work = v.work; vx = v.vx; vy = v.vy; vz = v.vz } };
+    ghost inverse = { λ v. record {
+      header_len = v.header_len;
+      width = v.width;
+      count = v.count;
+      order = v.order;
+      cube = v.cube;
+      mass_default = v.mass_default;
+      x = v.x;
+      y = v.y;
+      z = v.z;
+      mass = v.mass;
+      ident = v.ident;
+      work = v.work;
+      vx = v.vx;
+      vy = v.vy;
+      vz = v.vz;
+    } };
 }
 
 /// Why the reader gave no layout.

@@ -2,7 +2,8 @@
 
 ghost use Rattle.std.specs.Prelude.{◌≡◌, ◌≤◌, ◌<◌, length, ℕ, IfOk};
 ghost use Rattle.sdf_header.specs.Tokens.{Is, lex_of, lexeme_of, Advances};
-ghost use Rattle.sdf_header.specs.Parts.{name_of, is_the, sign_at, named, word_at, given_of, new_name, size_of, size_at, type_at, second_ref};
+ghost use Rattle.sdf_header.specs.Parts.{name_of, is_the, sign_at, named, word_at, given_of};
+ghost use Rattle.sdf_header.specs.Parts.{new_name, size_of, size_at, type_at, second_ref};
 
 use crate::document::{Named, Value};
 use crate::fault::{Fault, FaultKind};
@@ -36,7 +37,8 @@ pub fn sign_at(sign: u8, bytes: &[u8]) -> Result<&[u8], Fault>
 /// The word that a token is.
 pub fn named(l: Lexed<'_>) -> Result<Named<'_>, Fault>
     ensures exact { Is name_of result (named (lex_of l.entry)) }
-    ensures shorter { (before : ℕ) → Advances l.entry.token (length l.entry.rest.now) before → IfOk result (λ n. length n.rest.now < before) }
+    ensures shorter { (before : ℕ) → Advances l.entry.token (length l.entry.rest.now) before
+        → IfOk result (λ n. length n.rest.now < before) }
 {
     let Token::Word(name) = l.token else {
         return Err(syntax_at(l.start));

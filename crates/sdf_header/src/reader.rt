@@ -46,7 +46,8 @@ impl Model for HeaderReader {
 
     ghost view = { λ r. r.kept.items };
 
-    ghost invariant = { λ r. Stands r.found r.kept.items r.line × (max_header_bytes ≤ vec_capacity r.kept) };
+    ghost invariant = { λ r. Stands r.found r.kept.items r.line
+        × (max_header_bytes ≤ vec_capacity r.kept) };
 }
 
 fn is_open(found: Result<Option<usize>, HeaderFault>) -> bool

@@ -3,7 +3,11 @@
 ghost use Rattle.std.specs.Prelude.{◌≡◌, ◌≤◌, ◌<◌, length, ℕ, Ok, IfOk};
 ghost use Rattle.sdf_header.specs.Tokens.{Is, lex_of, lexeme_of, Advances};
 ghost use Rattle.sdf_header.specs.Parts.{Gives, given_of, name_of};
-ghost use Rattle.sdf_header.specs.Statements.{param_of, param_and_rest, header_of, param_end, number_value, value_of, parameter_at, number_for, is_text, text_at, value_at, declaration_at, with_param, parameter_statement, struct_statement, typed_statement, statement_at, is_end, header_in};
+ghost use Rattle.sdf_header.specs.Statements.{param_of, param_and_rest, header_of, param_end};
+ghost use Rattle.sdf_header.specs.Statements.{number_value, value_of, parameter_at, number_for};
+ghost use Rattle.sdf_header.specs.Statements.{is_text, text_at, value_at, declaration_at};
+ghost use Rattle.sdf_header.specs.Statements.{with_param, parameter_statement, struct_statement};
+ghost use Rattle.sdf_header.specs.Statements.{typed_statement, statement_at, is_end, header_in};
 
 use crate::columns::struct_at;
 use crate::document::{Document, Given, Named, Value};
@@ -128,7 +132,8 @@ fn declaration_at<'a>(
 
 /// Adds what a statement gives.
 fn give<'a>(document: &mut Document<'a>, given: Given<'a>) -> Result<(), Stop>
-    ensures { Gives (λ _. header_of document.new) result (Ok (with_param (header_of document.old) (param_of given.entry))) }
+    ensures { Gives (λ _. header_of document.new) result
+        (Ok (with_param (header_of document.old) (param_of given.entry))) }
 {
     document.given.insert(given.name, given.value)?;
     Ok(())
@@ -136,7 +141,8 @@ fn give<'a>(document: &mut Document<'a>, given: Given<'a>) -> Result<(), Stop>
 
 /// What is behind the statement of a parameter, from behind its word.
 fn parameter_statement<'a>(document: &mut Document<'a>, bytes: &'a [u8]) -> Result<&'a [u8], Stop>
-    ensures exact { Gives (λ rest. (header_of document.new, rest.now)) result (parameter_statement (header_of document.old) bytes.now) }
+    ensures exact { Gives (λ rest. (header_of document.new, rest.now)) result
+        (parameter_statement (header_of document.old) bytes.now) }
     ensures shorter { IfOk result (λ rest. length rest.now ≤ length bytes.now) }
 {
     let (given, rest) = parameter_at(&document.given, bytes)?;
@@ -150,7 +156,8 @@ fn struct_statement<'a>(
     document: &mut Document<'a>,
     n: Named<'a>,
 ) -> Result<&'a [u8], Stop>
-    ensures exact { Gives (λ rest. (header_of document.new, rest.now)) result (struct_statement (header_of document.old) (name_of n.entry)) }
+    ensures exact { Gives (λ rest. (header_of document.new, rest.now)) result
+        (struct_statement (header_of document.old) (name_of n.entry)) }
     ensures shorter { IfOk result (λ rest. length rest.now ≤ length n.entry.rest.now) }
 {
     if document.table.is_some() {
@@ -163,7 +170,8 @@ fn struct_statement<'a>(
 
 /// What is behind a statement that begins with a type.
 fn typed_statement<'a>(document: &mut Document<'a>, n: Named<'a>) -> Result<&'a [u8], Stop>
-    ensures exact { Gives (λ rest. (header_of document.new, rest.now)) result (typed_statement (header_of document.old) (name_of n.entry)) }
+    ensures exact { Gives (λ rest. (header_of document.new, rest.now)) result
+        (typed_statement (header_of document.old) (name_of n.entry)) }
     ensures shorter { IfOk result (λ rest. length rest.now ≤ length n.entry.rest.now) }
 {
     let (kind, rest) = type_at(n)?;
@@ -178,8 +186,10 @@ fn statement_at<'a>(
     document: &mut Document<'a>,
     l: Lexed<'a>,
 ) -> Result<&'a [u8], Stop>
-    ensures exact { Gives (λ rest. (header_of document.new, rest.now)) result (statement_at (header_of document.old) (lex_of l.entry)) }
-    ensures shorter { (before : ℕ) → Advances l.entry.token (length l.entry.rest.now) before → IfOk result (λ rest. length rest.now < before) }
+    ensures exact { Gives (λ rest. (header_of document.new, rest.now)) result
+        (statement_at (header_of document.old) (lex_of l.entry)) }
+    ensures shorter { (before : ℕ) → Advances l.entry.token (length l.entry.rest.now) before
+        → IfOk result (λ rest. length rest.now < before) }
 {
     let n = named(l)?;
     if n.name == b"parameter".as_slice() {
@@ -198,7 +208,7 @@ fn is_end(token: Token<'_>) -> bool
 }
 
 /// The header that a text is.
-#[tactic(auto, using(crate::proofs::Statements::start, crate::proofs::Statements::more, crate::proofs::Statements::done))]
+#[tactic(auto, using(crate::proofs::Statements::start, crate::proofs::Statements::more, crate::proofs::Statements::done,),)]
 pub fn header_in(alloc: Global, text: &[u8]) -> Result<Document<'_>, Stop>
     ensures { Gives header_of result (header_in text.now) }
 {

@@ -2,7 +2,9 @@
 
 ghost use Rattle.std.specs.Prelude.{◌≡◌, length, suc, IfOk, IfSome, ◌≤◌, ◌<◌};
 ghost use Rattle.sdf_header.specs.Numbers.{number, sees_rest};
-ghost use Rattle.sdf_header.specs.Tokens.{Is, lex_of, is_blank, begins_word, is_sign, behind_close, blank_at, past_blanks, behind_text, text_lex, number_lex, token_at, next, fault_at, syntax_at, Advances};
+ghost use Rattle.sdf_header.specs.Tokens.{Is, lex_of, is_blank, begins_word, is_sign, behind_close};
+ghost use Rattle.sdf_header.specs.Tokens.{blank_at, past_blanks, behind_text, text_lex, number_lex};
+ghost use Rattle.sdf_header.specs.Tokens.{token_at, next, fault_at, syntax_at, Advances};
 
 use crate::fault::{Fault, FaultKind};
 use crate::limits::MAX_TEXT_BYTES;
@@ -80,7 +82,8 @@ fn behind_close(bytes: &[u8]) -> Option<&[u8]>
 #[tactic(auto, unfolding(crate::specs::Tokens::blank_at))]
 fn blank_at(bytes: &[u8]) -> Result<Option<&[u8]>, Fault>
     ensures exact { Is sees_rest result (blank_at bytes.now) }
-    ensures shorter { IfOk result (λ found. IfSome found (λ rest. length rest.now < length bytes.now)) }
+    ensures shorter { IfOk result
+        (λ found. IfSome found (λ rest. length rest.now < length bytes.now)) }
 {
     let [first, behind @ ..] = bytes else {
         return Ok(None);
@@ -101,7 +104,7 @@ fn blank_at(bytes: &[u8]) -> Result<Option<&[u8]>, Fault>
 }
 
 /// What is behind all blanks and comments.
-#[tactic(auto, using(crate::proofs::Blanks::start, crate::proofs::Blanks::more, crate::proofs::Blanks::done, crate::proofs::Blanks::stopped))]
+#[tactic(auto, using(crate::proofs::Blanks::start, crate::proofs::Blanks::more, crate::proofs::Blanks::done, crate::proofs::Blanks::stopped,),)]
 fn past_blanks(bytes: &[u8]) -> Result<&[u8], Fault>
     ensures exact { Is (λ rest. rest.now) result (past_blanks (suc (length bytes.now)) bytes.now) }
     ensures shorter { IfOk result (λ rest. length rest.now ≤ length bytes.now) }

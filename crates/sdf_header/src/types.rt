@@ -1,7 +1,8 @@
 //! The types of values and columns, by their names.
 
 ghost use Rattle.std.specs.Prelude.{◌≡◌, ◌≤◌};
-ghost use Rattle.sdf_header.specs.Types.{kind_named, wide_kind, unsigned_kind, is_whole, is_char, bytes_of};
+ghost use Rattle.sdf_header.specs.Types.{kind_named, wide_kind, unsigned_kind, is_whole, is_char};
+ghost use Rattle.sdf_header.specs.Types.{bytes_of};
 
 use crate::kind::{Kind, Whole};
 

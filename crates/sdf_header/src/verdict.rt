@@ -7,7 +7,9 @@ ghost use Rattle.sdf_header.specs.Layouts.{IsLayout};
 ghost use Rattle.sdf_header.specs.Parts.{given_of};
 ghost use Rattle.sdf_header.specs.Fields.{row_of};
 ghost use Rattle.sdf_header.specs.Statements.{header_of};
-ghost use Rattle.sdf_header.specs.Verdict.{Gives, column, whole, whole_column, axes_of, optional_of, order_of, whole_param, small_param, cube_of, mass_of, count_of, layout_of, judged, at_place};
+ghost use Rattle.sdf_header.specs.Verdict.{Gives, column, whole, whole_column, axes_of};
+ghost use Rattle.sdf_header.specs.Verdict.{optional_of, order_of, whole_param, small_param};
+ghost use Rattle.sdf_header.specs.Verdict.{cube_of, mass_of, count_of, layout_of, judged, at_place};
 
 use crate::document::{Columns, Document, Value};
 use crate::fault::{Fault, FaultKind, Stop};

@@ -3,7 +3,8 @@
 ghost use Rattle.std.specs.Prelude.{◌≡◌, ◌+◌, ◌≤◌, length, drop, take, pos};
 ghost use Rattle.byteorder.specs.Endian.{twos_complement};
 ghost use Rattle.sdf_header.specs.Types.{Fits, FitsIfThere};
-ghost use Rattle.sdf_rows.specs.Columns.{Is64Bits, Are64Bits, column_value, value_or, value_if_there};
+ghost use Rattle.sdf_rows.specs.Columns.{Is64Bits, Are64Bits, column_value, value_or};
+ghost use Rattle.sdf_rows.specs.Columns.{value_if_there};
 
 use byteorder::{BigEndian, ByteOrder, LittleEndian};
 use sdf_header::{Col, Order, Whole};

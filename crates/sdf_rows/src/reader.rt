@@ -1,8 +1,10 @@
 //! The reader of rows, in any pieces.
 
-ghost use Rattle.std.specs.Prelude.{◌≡◌, ◌+◌, ◌-◌, ◌^◌, ◌<◌, ◌≤◌, ◌++◌, [], length, is_some, min, ℕ, List, IfOk, IfSome};
+ghost use Rattle.std.specs.Prelude.{◌≡◌, ◌+◌, ◌-◌, ◌^◌, ◌<◌, ◌≤◌, ◌++◌, [], length, is_some, min};
+ghost use Rattle.std.specs.Prelude.{ℕ, List, IfOk, IfSome};
 ghost use Rattle.sdf_rows.specs.Rows.{row_of, rows, ending, Has64Bits};
-ghost use Rattle.sdf_rows.specs.Reading.{IsBehind, reader_behind, is_full, answer_to, read_of, given_by};
+ghost use Rattle.sdf_rows.specs.Reading.{IsBehind, reader_behind, is_full, answer_to, read_of};
+ghost use Rattle.sdf_rows.specs.Reading.{given_by};
 
 use crate::layout_row::row_of;
 use crate::raw_row::{RawRow, RowFault, RowStep};
@@ -32,9 +34,15 @@ impl Model for Rows {
 
     ghost Value = { RowsValue };
 
-    ghost view = { λ r. record { layout = r.layout; given = r.given; held = take r.filled r.held; beyond = r.beyond } };
+    ghost view = { λ r. record {
+      layout = r.layout;
+      given = r.given;
+      held = take r.filled r.held;
+      beyond = r.beyond;
+    } };
 
-    ghost invariant = { λ r. IsLayout r.layout × (r.filled ≤ r.layout.width) × (length r.held ≡ max_row_bytes) };
+    ghost invariant = { λ r. IsLayout r.layout × (r.filled ≤ r.layout.width)
+        × (length r.held ≡ max_row_bytes) };
 }
 
 impl Rows {
@@ -60,11 +68,14 @@ impl Rows {
     /// each call.
     pub fn feed(&mut self, piece: &[u8]) -> Result<RowStep, RowFault>
         requires some { 1 ≤ length piece.now }
-        ensures answer { (bytes : List ℕ) → IsBehind self.old bytes → result ≡ answer_to self.old.layout bytes piece.now }
-        ensures after { (bytes : List ℕ) → IsBehind self.old bytes → IsBehind self.new (bytes ++ read_of result piece.now) }
+        ensures answer { (bytes : List ℕ) → IsBehind self.old bytes
+            → result ≡ answer_to self.old.layout bytes piece.now }
+        ensures after { (bytes : List ℕ) → IsBehind self.old bytes
+            → IsBehind self.new (bytes ++ read_of result piece.now) }
         // The rows of the bytes joined are those given before, and now the one given here.
-        ensures rows { (bytes : List ℕ) → IsBehind self.old bytes →
-            rows self.old.layout (bytes ++ read_of result piece.now) ≡ rows self.old.layout bytes ++ given_by result }
+        ensures rows { (bytes : List ℕ) → IsBehind self.old bytes
+            → rows self.old.layout (bytes ++ read_of result piece.now)
+            ≡ rows self.old.layout bytes ++ given_by result }
         ensures layout { self.new.layout ≡ self.old.layout }
         ensures within { IfOk result (λ step. step.taken ≤ length piece.now) }
         ensures fits { IfOk result (λ step. IfSome step.row Has64Bits) }
@@ -93,7 +104,8 @@ impl Rows {
     /// The fault is `Truncated`, exactly where the bytes end within that row or before a stated
     /// count is reached, or the fault that `feed` gave.
     pub fn finish(&self) -> Result<u64, RowFault>
-        ensures ending { (bytes : List ℕ) → IsBehind self.now bytes → result ≡ ending self.now.layout bytes }
+        ensures ending { (bytes : List ℕ) → IsBehind self.now bytes
+            → result ≡ ending self.now.layout bytes }
     {
         if self.beyond {
             return Err(RowFault::Trailing);
@@ -114,7 +126,8 @@ impl Rows {
 
     /// Whether a count is stated and all its rows were given.
     fn is_full(&self) -> bool
-        ensures { (bytes : List ℕ) → IsBehind self.now bytes → result ≡ is_full self.now.layout bytes }
+        ensures { (bytes : List ℕ) → IsBehind self.now bytes
+            → result ≡ is_full self.now.layout bytes }
     {
         match self.layout.count {
             Some(count) => self.given >= u64::from(count),
@@ -166,7 +179,8 @@ impl Rows {
     fn row_with(&mut self, rest: &[u8]) -> RawRow
         requires { length self.old.held + length rest.now ≡ self.old.layout.width }
         ensures value { result ≡ row_of self.old.layout self.old.given (self.old.held ++ rest.now) }
-        ensures after { self.new ≡ record self.old { given = min (self.old.given + 1) (2 ^ 64 - 1); held = [] } }
+        ensures after { self.new
+            ≡ record self.old { given = min (self.old.given + 1) (2 ^ 64 - 1); held = [] } }
         ensures fits { Has64Bits result }
     {
         if self.kept().is_empty() {
@@ -182,7 +196,8 @@ impl Rows {
 
     /// Counts the current row, and begins the next one.
     fn end_row(&mut self)
-        ensures { self.new ≡ record self.old { given = min (self.old.given + 1) (2 ^ 64 - 1); held = [] } }
+        ensures { self.new
+            ≡ record self.old { given = min (self.old.given + 1) (2 ^ 64 - 1); held = [] } }
     {
         self.given = self.given.saturating_add(1);
         self.filled = 0;

@@ -32,7 +32,8 @@ fn in_key_order(mut listed: Vec<Listed>) -> Vec<Listed>
 /// The branches of all ranks by ascending key, each with its rank, from the branch lists.
 pub fn all_branches(alloc: Global, lists: &[RecList]) -> Result<Vec<Listed>, AllocError>
     requires lists { (w : World) × AreLists w lists.now }
-    ensures value { IfOk result (λ v. (w : World) → AreLists w lists.now → v.items ≡ map (branch_of w) (branch_cells w)) }
+    ensures value { IfOk result
+        (λ v. (w : World) → AreLists w lists.now → v.items ≡ map (branch_of w) (branch_cells w)) }
 {
     let listed = gathered(alloc, lists)?;
     Ok(in_key_order(listed))

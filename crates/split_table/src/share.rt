@@ -29,7 +29,8 @@ pub fn shares_of(
 ) -> Result<Vec<Share>, AllocError>
     requires split { IsSplit set.now ranks pieces.now }
     requires lists { AreLists (world_of set.now ranks) lists.now }
-    ensures value { IfOk result (λ v. v.items ≡ map (tables.share_of set.now ranks) (numbers_below ranks)) }
+    ensures value { IfOk result
+        (λ v. v.items ≡ map (tables.share_of set.now ranks) (numbers_below ranks)) }
 {
     let mut shares = Vec::with_capacity(alloc, ranks as usize)?;
     for q in 0..ranks {

@@ -29,7 +29,11 @@ impl Model for SplitTable {
 
     ghost Value = { TableValue };
 
-    ghost view = { λ t. record { shares = t.shares.items; branches = t.branches.items; tops = t.tops.items } };
+    ghost view = { λ t. record {
+      shares = t.shares.items;
+      branches = t.branches.items;
+      tops = t.tops.items;
+    } };
 }
 
 impl SplitTable {

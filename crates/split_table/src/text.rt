@@ -26,7 +26,8 @@ fn add_numbers(line: &mut Line, rec: &CellRec)
 fn share_line<O: Sink>(out: &mut O, share: &Share) -> Result<(), Failed>
     requires unfailed { O.faults out.old ≡ 0 }
     ensures cause { FailsExactly (O.faults out.old) (O.faults out.new) result }
-    ensures text { Writes (O.written out.old) (O.written out.new) result (text.share_line share.now) }
+    ensures text { Writes (O.written out.old) (O.written out.new) result
+        (text.share_line share.now) }
 {
     let mut line = Line::new();
     line.add("rank ", share.rank);
@@ -40,7 +41,8 @@ fn share_line<O: Sink>(out: &mut O, share: &Share) -> Result<(), Failed>
 fn branch_line<O: Sink>(out: &mut O, branch: &Listed) -> Result<(), Failed>
     requires unfailed { O.faults out.old ≡ 0 }
     ensures cause { FailsExactly (O.faults out.old) (O.faults out.new) result }
-    ensures text { Writes (O.written out.old) (O.written out.new) result (text.branch_line branch.now) }
+    ensures text { Writes (O.written out.old) (O.written out.new) result
+        (text.branch_line branch.now) }
 {
     let mut line = Line::new();
     let rec = &branch.rec;
@@ -66,7 +68,8 @@ fn top_line<O: Sink>(out: &mut O, rec: &CellRec) -> Result<(), Failed>
 fn share_lines<O: Sink>(out: &mut O, shares: &[Share]) -> Result<(), Failed>
     requires unfailed { O.faults out.old ≡ 0 }
     ensures cause { FailsExactly (O.faults out.old) (O.faults out.new) result }
-    ensures text { Writes (O.written out.old) (O.written out.new) result (flat_map text.share_line shares.now) }
+    ensures text { Writes (O.written out.old) (O.written out.new) result
+        (flat_map text.share_line shares.now) }
 {
     for share in shares {
         share_line(out, share)?;
@@ -78,7 +81,8 @@ fn share_lines<O: Sink>(out: &mut O, shares: &[Share]) -> Result<(), Failed>
 fn branch_lines<O: Sink>(out: &mut O, branches: &[Listed]) -> Result<(), Failed>
     requires unfailed { O.faults out.old ≡ 0 }
     ensures cause { FailsExactly (O.faults out.old) (O.faults out.new) result }
-    ensures text { Writes (O.written out.old) (O.written out.new) result (flat_map text.branch_line branches.now) }
+    ensures text { Writes (O.written out.old) (O.written out.new) result
+        (flat_map text.branch_line branches.now) }
 {
     for branch in branches {
         branch_line(out, branch)?;
@@ -90,7 +94,8 @@ fn branch_lines<O: Sink>(out: &mut O, branches: &[Listed]) -> Result<(), Failed>
 fn top_lines<O: Sink>(out: &mut O, tops: &[CellRec]) -> Result<(), Failed>
     requires unfailed { O.faults out.old ≡ 0 }
     ensures cause { FailsExactly (O.faults out.old) (O.faults out.new) result }
-    ensures text { Writes (O.written out.old) (O.written out.new) result (flat_map text.top_line tops.now) }
+    ensures text { Writes (O.written out.old) (O.written out.new) result
+        (flat_map text.top_line tops.now) }
 {
     for rec in tops {
         top_line(out, rec)?;
@@ -109,7 +114,8 @@ fn top_lines<O: Sink>(out: &mut O, tops: &[CellRec]) -> Result<(), Failed>
 pub fn split_text<O: Sink>(out: &mut O, table: &SplitTable) -> Result<(), Failed>
     requires unfailed { O.faults out.old ≡ 0 }
     ensures cause { FailsExactly (O.faults out.old) (O.faults out.new) result }
-    ensures text { Writes (O.written out.old) (O.written out.new) result (text.table_text table.now) }
+    ensures text { Writes (O.written out.old) (O.written out.new) result
+        (text.table_text table.now) }
 {
     write_all(out, b"# hot split 1\n")?;
     share_lines(out, table.shares())?;

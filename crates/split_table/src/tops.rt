@@ -12,7 +12,9 @@ use std::alloc::{AllocError, Global};
 /// The records of the top cells over all bodies, by ascending key, from the branch lists.
 pub fn top_records(alloc: Global, lists: &[RecList]) -> Result<Vec<CellRec>, AllocError>
     requires lists { (w : World) × AreLists w lists.now }
-    ensures value { IfOk result (λ v. (w : World) → AreLists w lists.now → v.items ≡ map (cell_record w.bodies) (branches.tops w)) }
+    ensures value { IfOk result
+        (λ v. (w : World) → AreLists w lists.now
+        → v.items ≡ map (cell_record w.bodies) (branches.tops w)) }
 {
     let top = Top::merge(alloc, lists)?;
     let mut records = Vec::new(alloc);

@@ -86,8 +86,12 @@ impl Pieces {
     /// is the number of bodies of lower ranks, also for a rank without bodies.
     pub fn range(&self, q: u32) -> (usize, usize)
         requires rank { q < splits.ranks_of self.now }
-        ensures value { result ≡ (slice_index self.now.starts q, slice_index self.now.starts (q + 1)) }
-        ensures piece { (set : OrderedValue) → IsOrderedSet set → self.now ≡ splits.pieces_of set (splits.ranks_of self.now) → splits.IsRun set.bodies (world.piece (splits.world_of set (splits.ranks_of self.now)) q) result.0 result.1 }
+        ensures value { result
+            ≡ (slice_index self.now.starts q, slice_index self.now.starts (q + 1)) }
+        ensures piece { (set : OrderedValue) → IsOrderedSet set
+            → self.now ≡ splits.pieces_of set (splits.ranks_of self.now)
+            → splits.IsRun set.bodies
+            (world.piece (splits.world_of set (splits.ranks_of self.now)) q) result.0 result.1 }
     {
         let q = q as usize;
         (self.starts[q], self.starts[q + 1])
@@ -98,7 +102,9 @@ impl Pieces {
     pub fn weight(&self, q: u32) -> u64
         requires rank { q < splits.ranks_of self.now }
         ensures value { result ≡ slice_index self.now.weights q }
-        ensures piece { (set : OrderedValue) → self.now ≡ splits.pieces_of set (splits.ranks_of self.now) → result ≡ splits.weight_of set (splits.ranks_of self.now) q }
+        ensures piece { (set : OrderedValue)
+            → self.now ≡ splits.pieces_of set (splits.ranks_of self.now)
+            → result ≡ splits.weight_of set (splits.ranks_of self.now) q }
     {
         self.weights[q as usize]
     }
@@ -108,8 +114,10 @@ impl Pieces {
     pub fn neighbours(&self, set: &Ordered, q: u32) -> (Option<u64>, Option<u64>)
         requires rank { q < splits.ranks_of self.now }
         requires same { self.now ≡ splits.pieces_of set.now (splits.ranks_of self.now) }
-        ensures left { result.0 ≡ world.left_of (splits.world_of set.now (splits.ranks_of self.now)) q }
-        ensures right { result.1 ≡ world.right_of (splits.world_of set.now (splits.ranks_of self.now)) q }
+        ensures left { result.0
+            ≡ world.left_of (splits.world_of set.now (splits.ranks_of self.now)) q }
+        ensures right { result.1
+            ≡ world.right_of (splits.world_of set.now (splits.ranks_of self.now)) q }
     {
         let bodies = set.bodies();
         let (from, to) = self.range(q);

@@ -1,4 +1,5 @@
-ghost use Rattle.std.specs.Prelude.{◌≡◌, ◌<◌, ◌≤◌, ◌-◌, ◌*◌, ◌/◌, ℕ, min, length, slice_index, IfOk, All};
+ghost use Rattle.std.specs.Prelude.{◌≡◌, ◌<◌, ◌≤◌, ◌-◌, ◌*◌, ◌/◌, ℕ, min, length, slice_index};
+ghost use Rattle.std.specs.Prelude.{IfOk, All};
 ghost use Rattle.hot_model.specs.Limits.{max_bodies, max_ranks, max_work};
 ghost use Rattle.hot_model.specs.Order.{IsInOrder};
 ghost use Rattle.work_split.specs.Splits as splits;
@@ -45,8 +46,10 @@ pub fn tally(
     requires order { IsInOrder bodies.now }
     requires rows { All (λ b. b.row < length weights.now) bodies.now }
     requires few { length bodies.now ≤ max_bodies }
-    ensures counts { IfOk result (λ t. splits.AreCounts bodies.now weights.now ranks bodies.now t.counts.items) }
-    ensures weights { IfOk result (λ t. splits.AreWeights bodies.now weights.now ranks bodies.now t.weights.items) }
+    ensures counts { IfOk result
+        (λ t. splits.AreCounts bodies.now weights.now ranks bodies.now t.counts.items) }
+    ensures weights { IfOk result
+        (λ t. splits.AreWeights bodies.now weights.now ranks bodies.now t.weights.items) }
 {
     let all = total(bodies, weights);
     let whole = if all == 0 { bodies.len() as u64 } else { all };
