@@ -1,7 +1,7 @@
 -- Products of signed numbers as code has them.
-use Rattle.std.proofs.Common.{ℕ, List, get_or, refl, ℤ, pos, negsuc, ◌*ℤ◌, ◌-ℤ◌, ◌≡◌, ◌+◌, ◌*◌, ◌/◌, ◌^◌, ◌≤◌, ◌<◌, nat_abs, arith, ◌∙◌}
+use Rattle.std.proofs.Common.{ℕ, List, get_or, refl, ℤ, pos, ◌*ℤ◌, ◌-ℤ◌, ◌≡◌, ◌+◌, ◌*◌, ◌/◌, ◌^◌, ◌≤◌, ◌<◌, nat_abs, arith, ◌∙◌}
 use Rattle.std.proofs.lemmas.Int.{ints, to_z-of_z}
-use mir.Syntax.{w64, w128}
+use mir.Syntax.{w128}
 use mir.Val.{SFits, of_z, to_z}
 use Rattle.hot_model.specs.Values.{CellValue, Products}
 use Rattle.hot_model.specs.Kernel.{centre, coordinates}
@@ -31,14 +31,6 @@ five-small g n h k =
     let a = abs-times (pos 5) g 5 (2 ^ 86) (omega arith) h in
     let b = abs-times (pos 5 *ℤ g) n (5 * 2 ^ 86) (2 ^ 20) a k in
     trunc-small (pos 5 *ℤ g *ℤ n) (2 ^ 21) (2 ^ 88) (omega (arith, b))
-
--- a number below 2^63 as it is stored in 64 bits
-pub short-stored : (a : ℤ) → nat_abs a ≤ 2 ^ 62 → to_z w64 (of_z w64 a) ≡ a
-short-stored a h = to_z-of_z w64 a (fits a h)
-  where
-    fits : (a : ℤ) → nat_abs a ≤ 2 ^ 62 → SFits w64 a
-    fits (pos m) h = record { sfits = omega arith }
-    fits (negsuc m) h = record { sfits = omega arith }
 
 -- a spread by what a sum is more than at the centre
 pub spread-rest : (m c d s t q e : ℕ) → s ≡ m * c + e → pos q -ℤ pos (c * t + d * e) ≡ pos (q + m * (c * d)) -ℤ pos (c * t + d * s)
