@@ -1,125 +1,104 @@
--- A chain has each key of its bucket.
-use Rattle.std.proofs.Common.{ℕ, zero, suc, ◌≡◌, ◌≢◌, ◌<◌, ◌≤◌, ◌^◌, Bool, true, false, eqb, List, [], ◌∷◌, ◌++◌, length, get_or, set, refl, sym, ap, ◌∙◌, subst, inl, inr, arith, length-append, length-set, get_or-set_same, get_or-set_other}
-use Rattle.std.specs.Prelude.{if◌then◌else◌, bit_and}
-use Rattle.std.proofs.lemmas.Bool.{eqb-true, eq-eqb, cases_eq, cases_lt}
-use Rattle.std.proofs.lemmas.Nat.{and_le_r}
-use Rattle.std.proofs.Math.Seq.{get_or-append_seam}
+-- A chain leads to each key of its bucket.
+use Rattle.std.proofs.Common.{ℕ, zero, suc, ◌≡◌, ◌≢◌, ◌<◌, ◌/◌, ◌^◌, List, [], ◌∷◌, ◌++◌, length, get_or, set, refl, sym, ap, ◌∙◌, subst, inl, inr, arith, length-append, length-set, get_or-set_same, get_or-set_other}
+use Rattle.std.specs.Prelude.{bit_and}
+use Rattle.std.proofs.lemmas.Bool.{cases_eq, cases_lt}
 use Rattle.std.proofs.lemmas.Option.{slice_get_read, get_or_from_slice_get}
-use Rattle.std.proofs.lemmas.List.{get_or_append_left, get_or-map}
-use Rattle.cell_hash.specs.declared.chains.Link.{Link}
-use Rattle.cell_hash.specs.Chains.{keys_of, befores_of, last_in, AreChains}
-use Rattle.cell_hash.specs.Entries.{IsAbsentFrom}
+use Rattle.std.proofs.Math.Seq.{get_or-append_seam}
+use Rattle.std.proofs.lemmas.List.{get_or_append_left}
+use Rattle.cell_hash.specs.Chains.{slot_behind, step_from, slot_after, Leads, IsOnWay, AreChains}
 
--- at most n
-pub last_le : (mask : ℕ) (keys : List ℕ) (b n : ℕ) → last_in mask keys b n ≤ n
-last_le mask keys b zero = omega arith
-last_le mask keys b (suc n) = elim (eqb (bit_and (get_or keys n 0) mask) b) as (λ (t : Bool). (if t then suc n else last_in mask keys b n) ≤ suc n) [
-  | true ↦ omega arith
-  | false ↦ omega (arith, last_le mask keys b n)
-]
+-- at an empty slot a chain stays
+pub stays : (mask : ℕ) (slots : List ℕ) (rest slot n : ℕ) → get_or slots slot 0 ≡ 0 → slot_after mask slots rest slot n ≡ slot
+stays mask slots rest slot zero empty = refl
+stays mask slots rest slot (suc n) empty = rw empty (stays mask slots (rest / 2) slot n empty)
 
--- behind it no key is in the bucket
-pub last_behind : (mask : ℕ) (keys : List ℕ) (b n i : ℕ) → last_in mask keys b n ≤ i → i < n → bit_and (get_or keys i 0) mask ≡ b → ⊥
-last_behind mask keys b zero i low high e = absurd (omega (arith, high))
-last_behind mask keys b (suc n) i low high e = by_test (last_behind mask keys b n) (eqb (bit_and (get_or keys n 0) mask) b) refl low
-  where
-    by_test : ((i : ℕ) → last_in mask keys b n ≤ i → i < n → bit_and (get_or keys i 0) mask ≡ b → ⊥) → (t : Bool) → eqb (bit_and (get_or keys n 0) mask) b ≡ t → (if t then suc n else last_in mask keys b n) ≤ i → ⊥
-    by_test more true f l = absurd (omega (arith, l, high))
-    by_test more false f l = elim (cases_eq i n) [
-      | inl s ↦ absurd (let g : eqb (bit_and (get_or keys n 0) mask) b ≡ true = eq-eqb _ _ (subst (λ (k : ℕ). bit_and (get_or keys k 0) mask ≡ b) s e) in let h : false ≡ true = sym f ∙ g in cc)
-      | inr d ↦ more i l (omega (arith, high, d)) e
-    ]
+-- an empty slot leads nowhere
+pub leads_nowhere : (mask : ℕ) (slots : List ℕ) (rest slot place : ℕ) → get_or slots slot 0 ≡ 0 → Leads mask slots rest slot place → ⊥
+leads_nowhere mask slots rest slot place empty way =
+    let there : get_or slots slot 0 ≡ suc place = subst (λ (s : ℕ). get_or slots s 0 ≡ suc place) (stays mask slots rest slot way.0 empty) way.1 in
+    absurd (omega (arith, there, empty))
 
--- it is in the bucket
-pub last_has : (mask : ℕ) (keys : List ℕ) (b n p : ℕ) → last_in mask keys b n ≡ suc p → (p < n) × (bit_and (get_or keys p 0) mask ≡ b)
-last_has mask keys b zero p e = absurd (omega (arith, e))
-last_has mask keys b (suc n) p e = by_test (last_has mask keys b n p) (eqb (bit_and (get_or keys n 0) mask) b) refl e
-  where
-    by_test : (last_in mask keys b n ≡ suc p → (p < n) × (bit_and (get_or keys p 0) mask ≡ b)) → (t : Bool) → eqb (bit_and (get_or keys n 0) mask) b ≡ t → (if t then suc n else last_in mask keys b n) ≡ suc p → (p < suc n) × (bit_and (get_or keys p 0) mask ≡ b)
-    by_test more true f l = (omega (arith, l), (let same : n ≡ p = omega (arith, l) in subst (λ (k : ℕ). bit_and (get_or keys k 0) mask ≡ b) same (eqb-true _ _ f)))
-    by_test more false f l = let found = more l in (omega (arith, found.0), found.1)
+-- what a slot leads to stands there, or lies behind
+pub leads_on : (mask : ℕ) (slots : List ℕ) (rest slot at place : ℕ) → get_or slots slot 0 ≡ suc at → at ≢ place → Leads mask slots rest slot place → Leads mask slots (rest / 2) (slot_behind mask rest at) place
+leads_on mask slots rest slot at place here other (zero, e) = absurd (other (let s : suc at ≡ suc place = sym here ∙ e in omega (arith, s)))
+leads_on mask slots rest slot at place here other (suc n, e) = (n, subst (λ (b : ℕ). get_or slots (slot_after mask slots (rest / 2) (step_from mask rest slot b) n) 0 ≡ suc place) here e)
 
--- keys that come behind change nothing
-pub last_more : (mask : ℕ) (keys more : List ℕ) (b n : ℕ) → n ≤ length keys → last_in mask (keys ++ more) b n ≡ last_in mask keys b n
-last_more mask keys more b zero within = refl
-last_more mask keys more b (suc n) within =
-    let here : get_or (keys ++ more) n 0 ≡ get_or keys n 0 = get_or_append_left keys more 0 n within in
-    let before : last_in mask (keys ++ more) b n ≡ last_in mask keys b n = last_more mask keys more b n (omega (arith, within)) in
-    rw (here, before) refl
+-- as many steps lead to the same slot
+pub as_many : (mask : ℕ) (slots : List ℕ) (rest slot m n : ℕ) → m ≡ n → slot_after mask slots rest slot m ≡ slot_after mask slots rest slot n
+as_many mask slots rest slot m n e = ap (λ (k : ℕ). slot_after mask slots rest slot k) e
 
--- the chain of a bucket goes on at a place
-pub goes_on_at : (mask : ℕ) (heads keys befores : List ℕ) (key m place : ℕ) → AreChains mask heads keys befores → m ≤ length keys → suc place ≡ last_in mask keys (bit_and key mask) m → (place < length keys) × (get_or befores place 0 ≡ last_in mask keys (bit_and key mask) place)
-goes_on_at mask heads keys befores key m place chains within chain =
-    let has = last_has mask keys (bit_and key mask) m place (sym chain) in
-    let at : place < length keys = omega (arith, has.0, within) in
-    (at, chains.goes_on place at ∙ ap (λ (b : ℕ). last_in mask keys b place) has.1)
+-- one step more from a slot that names a place
+pub step_more : (mask : ℕ) (slots : List ℕ) (rest slot at m : ℕ) → get_or slots slot 0 ≡ suc at → slot_after mask slots rest slot (suc m) ≡ slot_after mask slots (rest / 2) (slot_behind mask rest at) m
+step_more mask slots rest slot at m here = ap (λ (b : ℕ). slot_after mask slots (rest / 2) (step_from mask rest slot b) m) here
 
--- what the chain passes over has another key
-pub passes_over : (mask : ℕ) (keys : List ℕ) (key place before : ℕ) → before ≡ last_in mask keys (bit_and key mask) place → get_or keys place 0 ≢ key → IsAbsentFrom keys (suc place) key → IsAbsentFrom keys before key
-passes_over mask keys key place before chain other absent i low high e = elim (cases_eq i place) [
-  | inl s ↦ other (subst (λ (k : ℕ). get_or keys k 0 ≡ key) s e)
-  | inr d ↦ elim (cases_lt i place) [
-    | inl below ↦ last_behind mask keys (bit_and key mask) place i (omega (arith, low, chain)) below (ap (λ (k : ℕ). bit_and k mask) e)
-    | inr above ↦ absent i (omega (arith, above, d)) high e
-  ]
-]
+-- where no place holds 0, empty slots behind change nothing
+zeros_behind : (slots : List ℕ) (s : ℕ) → get_or (slots ++ 0 ∷ 0 ∷ []) s 0 ≡ get_or slots s 0
+zeros_behind [] zero = refl
+zeros_behind [] (suc zero) = refl
+zeros_behind [] (suc (suc s)) = refl
+zeros_behind (x ∷ xs) zero = refl
+zeros_behind (x ∷ xs) (suc s) = zeros_behind xs s
 
--- the last key of a list that has one more is that one, where it is in the bucket
-starts_after : (mask : ℕ) (heads keys : List ℕ) (key b : ℕ) → b < length heads → get_or heads b 0 ≡ last_in mask keys b (length keys) → get_or (set heads (bit_and key mask) (suc (length keys))) b 0 ≡ last_in mask (keys ++ key ∷ []) b (suc (length keys))
-starts_after mask heads keys key b within start =
-    let here : get_or (keys ++ key ∷ []) (length keys) 0 ≡ key = get_or-append_seam keys key [] 0 in
-    rw here (by_test (eqb (bit_and key mask) b) refl)
-  where
-    by_test : (t : Bool) → eqb (bit_and key mask) b ≡ t → get_or (set heads (bit_and key mask) (suc (length keys))) b 0 ≡ (if t then suc (length keys) else last_in mask (keys ++ key ∷ []) b (length keys))
-    by_test true f =
-        let same : bit_and key mask ≡ b = eqb-true _ _ f in
-        rw same (get_or-set_same heads b (suc (length keys)) 0 within)
-    by_test false f =
-        get_or-set_other heads (bit_and key mask) b (suc (length keys)) 0 (λ e. let g : eqb (bit_and key mask) b ≡ true = eq-eqb _ _ (sym e) in let h : false ≡ true = sym f ∙ g in cc)
-        ∙ start
-        ∙ sym (last_more mask keys (key ∷ []) b (length keys) (omega arith))
+-- the slots with two more, of which an empty one now names a place
+abbrev pub named : List ℕ → ℕ → ℕ → List ℕ
+named slots empty place = set (slots ++ 0 ∷ 0 ∷ []) empty (suc place)
 
-one_longer : {A : Type 0} (xs : List A) (x : A) → length (xs ++ x ∷ []) ≡ suc (length xs)
-one_longer xs x = length-append xs (x ∷ []) ∙ (omega arith)
+-- what a slot names it goes on to name
+names_still : (slots : List ℕ) (empty new s place : ℕ) → get_or slots empty 0 ≡ 0 → get_or slots s 0 ≡ suc place → get_or (named slots empty new) s 0 ≡ suc place
+names_still slots empty new s place none e =
+    get_or-set_other (slots ++ 0 ∷ 0 ∷ []) empty s (suc new) 0 (λ same. let z : suc place ≡ 0 = sym e ∙ ap (λ (k : ℕ). get_or slots k 0) same ∙ none in omega (arith, z))
+    ∙ zeros_behind slots s
+    ∙ e
 
--- a key is added behind the others, as the last of its bucket
-pub chains_grow : (mask : ℕ) (heads keys befores : List ℕ) (key : ℕ) → AreChains mask heads keys befores → suc (length keys) < 2 ^ 32
-    → AreChains mask (set heads (bit_and key mask) (suc (length keys))) (keys ++ key ∷ []) (befores ++ get_or heads (bit_and key mask) 0 ∷ [])
-chains_grow mask heads keys befores key chains few = record {
-  wide = rw length-set chains.wide;
-  few = rw (one_longer keys key) few;
-  both = one_longer befores _ ∙ ap suc chains.both ∙ sym (one_longer keys key);
-  starts = λ b within. rw (one_longer keys key) (starts_after mask heads keys key b (let w : b < length heads = rw length-set at within in w) (chains.starts b (let w : b < length heads = rw length-set at within in w)));
-  goes_on = λ i within. elim (cases_lt i (length keys)) [
-    | inl below ↦ earlier i below
-    | inr above ↦ (let last : i ≡ length keys = omega (arith, above, within, one_longer keys key) in rw last here)
+-- the empty slot names the new place
+names_new : (slots : List ℕ) (empty new : ℕ) → empty < length slots → get_or (named slots empty new) empty 0 ≡ suc new
+names_new slots empty new within = get_or-set_same (slots ++ 0 ∷ 0 ∷ []) empty (suc new) 0 (omega (arith, within, length-append slots (0 ∷ 0 ∷ [])))
+
+module _ (mask : ℕ) (slots : List ℕ) (empty new : ℕ) (none : get_or slots empty 0 ≡ 0) (within : empty < length slots) where
+  -- one step more over the slots with the new place
+  named_more : (rest slot at place : ℕ) → get_or slots slot 0 ≡ suc at → Leads mask (named slots empty new) (rest / 2) (slot_behind mask rest at) place → Leads mask (named slots empty new) rest slot place
+  named_more rest slot at place here on = (suc on.0, ap (λ (s : ℕ). get_or (named slots empty new) s 0) (step_more mask (named slots empty new) rest slot at on.0 (names_still slots empty new slot at none here)) ∙ on.1)
+
+  -- what was led to is led to still
+  pub leads_still : (n rest slot place : ℕ) → get_or slots (slot_after mask slots rest slot n) 0 ≡ suc place → Leads mask (named slots empty new) rest slot place
+  leads_still zero rest slot place e = (zero, names_still slots empty new slot place none e)
+  leads_still (suc n) rest slot place e = by_slot (leads_still n) (get_or slots slot 0) refl
+    where
+      by_slot : ((rest slot place : ℕ) → get_or slots (slot_after mask slots rest slot n) 0 ≡ suc place → Leads mask (named slots empty new) rest slot place) → (b : ℕ) → get_or slots slot 0 ≡ b → Leads mask (named slots empty new) rest slot place
+      by_slot more zero here = absurd (leads_nowhere mask slots rest slot place here (suc n, e))
+      by_slot more (suc at) here = named_more rest slot at place here (more (rest / 2) (slot_behind mask rest at) place (sym (ap (λ (s : ℕ). get_or slots s 0) (step_more mask slots rest slot at n here)) ∙ e))
+
+  -- a way to the empty slot leads to the new place
+  pub leads_new : (n rest slot : ℕ) → slot_after mask slots rest slot n ≡ empty → Leads mask (named slots empty new) rest slot new
+  leads_new zero rest slot e = (zero, ap (λ (s : ℕ). get_or (named slots empty new) s 0) e ∙ names_new slots empty new within)
+  leads_new (suc n) rest slot e = by_slot (leads_new n) (get_or slots slot 0) refl
+    where
+      by_slot : ((rest slot : ℕ) → slot_after mask slots rest slot n ≡ empty → Leads mask (named slots empty new) rest slot new) → (b : ℕ) → get_or slots slot 0 ≡ b → Leads mask (named slots empty new) rest slot new
+      by_slot more zero here = (zero, ap (λ (s : ℕ). get_or (named slots empty new) s 0) (sym (stays mask slots rest slot (suc n) here) ∙ e) ∙ names_new slots empty new within)
+      by_slot more (suc at) here = named_more rest slot at new here (more (rest / 2) (slot_behind mask rest at) (sym (step_more mask slots rest slot at n here) ∙ e))
+
+-- a key is added behind the others, named by the empty slot at the end of its way
+pub chains_grow : (mask bits : ℕ) (keys slots : List ℕ) (key empty : ℕ) → AreChains mask bits keys slots → empty < length slots → get_or slots empty 0 ≡ 0 → IsOnWay mask bits slots key empty
+    → AreChains mask bits (keys ++ key ∷ []) (named slots empty (length keys))
+chains_grow mask bits keys slots key empty chains within none way = record {
+  narrow = chains.narrow;
+  long = length-set (slots ++ 0 ∷ 0 ∷ []) empty (suc (length keys)) ∙ (omega (arith, chains.long, length-append slots (0 ∷ 0 ∷ []), length-append keys (key ∷ [])));
+  rises = λ slot place e. elim (cases_eq slot empty) [
+    | inl same ↦ (let new : suc (length keys) ≡ suc place = sym (names_new slots empty (length keys) within) ∙ ap (λ (s : ℕ). get_or (named slots empty (length keys)) s 0) (sym same) ∙ e in (omega (arith, new, within, chains.long, same), omega (arith, new, longer)))
+    | inr other ↦ (let old = chains.rises slot place (sym (zeros_behind slots slot) ∙ sym (get_or-set_other (slots ++ 0 ∷ 0 ∷ []) empty slot (suc (length keys)) 0 other) ∙ e) in (old.0, omega (arith, old.1, longer)))
+  ];
+  found = λ place at. elim (cases_lt place (length keys)) [
+    | inl low ↦ rw (get_or_append_left keys (key ∷ []) 0 place low) (still place low)
+    | inr high ↦ (let last : place ≡ length keys = omega (arith, high, at, longer) in rw (last, get_or-append_seam keys key [] 0) (leads_new mask slots empty (length keys) none within way.0 (key / 2 ^ bits) (bit_and key mask) way.1))
   ];
 }
   where
-    earlier : (i : ℕ) → i < length keys → get_or (befores ++ get_or heads (bit_and key mask) 0 ∷ []) i 0 ≡ last_in mask (keys ++ key ∷ []) (bit_and (get_or (keys ++ key ∷ []) i 0) mask) i
-    earlier i below =
-        let same : get_or (keys ++ key ∷ []) i 0 ≡ get_or keys i 0 = get_or_append_left keys (key ∷ []) 0 i below in
-        get_or_append_left befores _ 0 i (omega (arith, below, chains.both))
-        ∙ chains.goes_on i below
-        ∙ sym (last_more mask keys (key ∷ []) (bit_and (get_or keys i 0) mask) i (omega (arith, below)))
-        ∙ ap (λ (k : ℕ). last_in mask (keys ++ key ∷ []) (bit_and k mask) i) (sym same)
+    longer : length (keys ++ key ∷ []) ≡ suc (length keys)
+    longer = length-append keys (key ∷ []) ∙ (omega arith)
 
-    here : get_or (befores ++ get_or heads (bit_and key mask) 0 ∷ []) (length keys) 0 ≡ last_in mask (keys ++ key ∷ []) (bit_and (get_or (keys ++ key ∷ []) (length keys) 0) mask) (length keys)
-    here =
-        let bucket : bit_and key mask < length heads = omega (arith, and_le_r key mask, chains.wide) in
-        (ap (λ (n : ℕ). get_or (befores ++ get_or heads (bit_and key mask) 0 ∷ []) n 0) (sym chains.both) ∙ get_or-append_seam befores (get_or heads (bit_and key mask) 0) [] 0)
-        ∙ chains.starts (bit_and key mask) bucket
-        ∙ sym (last_more mask keys (key ∷ []) (bit_and key mask) (length keys) (omega arith))
-        ∙ ap (λ (k : ℕ). last_in mask (keys ++ key ∷ []) (bit_and k mask) (length keys)) (sym (get_or-append_seam keys key [] 0))
+    still : (place : ℕ) → place < length keys → Leads mask (named slots empty (length keys)) (get_or keys place 0 / 2 ^ bits) (bit_and (get_or keys place 0) mask) place
+    still place low = let way = chains.found place low in leads_still mask slots empty (length keys) none within way.0 (get_or keys place 0 / 2 ^ bits) (bit_and (get_or keys place 0) mask) place way.1
 
 -- a number that was read from a list
 pub read_at : (xs : List ℕ) (i x : ℕ) → i < length xs → x ≡ get_or xs i x → get_or xs i 0 ≡ x
 read_at xs i x within e = get_or_from_slice_get xs i x 0 (slice_get_read xs (length xs) i x refl within e)
-
--- the key of a link that was read, and what is before it
-pub key_at : (links : List Link) (i : ℕ) (l : Link) → i < length links → l ≡ get_or links i l → get_or (keys_of links) i 0 ≡ l.key
-key_at links i l within e = get_or-map (λ (x : Link). x.key) links i l 0 within ∙ ap (λ (x : Link). x.key) (sym e)
-
--- and what stands before it
-pub before_at : (links : List Link) (i : ℕ) (l : Link) → i < length links → l ≡ get_or links i l → get_or (befores_of links) i 0 ≡ l.before
-before_at links i l within e = get_or-map (λ (x : Link). x.before) links i l 0 within ∙ ap (λ (x : Link). x.before) (sym e)

@@ -1,24 +1,31 @@
--- Chains of keys, by places in one list.
-use Rattle.std.specs.Prelude.{ℕ, zero, suc, ◌≡◌, ◌<◌, ◌^◌, eqb, if◌then◌else◌, List, length, map, get_or, bit_and}
-use Rattle.cell_hash.specs.declared.chains.Link.{Link}
+-- Buckets of keys, by places in one list: a bucket's chain forks by the bits above those that chose it.
+use Rattle.std.specs.Prelude.{ℕ, zero, suc, ◌≡◌, ◌<◌, ◌+◌, ◌*◌, ◌/◌, ◌%◌, ◌^◌, List, length, get_or, bit_and}
 
--- the keys of the links, and what each has before it
-abbrev pub keys_of : List Link → List ℕ
-keys_of links = map (λ l. l.key) links
+-- the slot where the chain goes on behind a place: each bucket has one slot, then each place two, of which the next bit chooses
+abbrev pub slot_behind : ℕ → ℕ → ℕ → ℕ
+slot_behind mask rest place = mask + 1 + 2 * place + rest % 2
 
--- what each link has before it
-abbrev pub befores_of : List Link → List ℕ
-befores_of links = map (λ l. l.before) links
+-- one step down a chain: from a slot that names a place to the one behind that place; an empty slot is the chain's end
+abbrev pub step_from : ℕ → ℕ → ℕ → ℕ → ℕ
+step_from mask rest slot zero = slot
+step_from mask rest slot (suc place) = slot_behind mask rest place
 
--- the place behind the last key of a bucket among the first n; 0 where there is none
-abbrev pub last_in : ℕ → List ℕ → ℕ → ℕ → ℕ
-last_in mask keys bucket zero = 0
-last_in mask keys bucket (suc n) = if eqb (bit_and (get_or keys n 0) mask) bucket then suc n else last_in mask keys bucket n
+-- the slot after so many steps, each of which takes one bit
+abbrev pub slot_after : ℕ → List ℕ → ℕ → ℕ → ℕ → ℕ
+slot_after mask slots rest slot zero = slot
+slot_after mask slots rest slot (suc n) = slot_after mask slots (rest / 2) (step_from mask rest slot (get_or slots slot 0)) n
 
--- each bucket has its last key, and each key the one before it in its bucket
-pub record AreChains (mask : ℕ) (heads keys befores : List ℕ) : Type 0 where
-  pub wide : mask < length heads
-  pub few : length keys < 2 ^ 32
-  pub both : length befores ≡ length keys
-  pub starts : (b : ℕ) → b < length heads → get_or heads b 0 ≡ last_in mask keys b (length keys)
-  pub goes_on : (i : ℕ) → i < length keys → get_or befores i 0 ≡ last_in mask keys (bit_and (get_or keys i 0) mask) i
+-- some steps lead from a slot to one that names the place
+abbrev pub Leads : ℕ → List ℕ → ℕ → ℕ → ℕ → Type 0
+Leads mask slots rest slot place = (n : ℕ) × (get_or slots (slot_after mask slots rest slot n) 0 ≡ suc place)
+
+-- the slot lies on the way of a key
+abbrev pub IsOnWay : ℕ → ℕ → List ℕ → ℕ → ℕ → Type 0
+IsOnWay mask bits slots key slot = (n : ℕ) × (slot_after mask slots (key / 2 ^ bits) (bit_and key mask) n ≡ slot)
+
+-- each key is found on its way, and a slot names a place that lies behind it
+pub record AreChains (mask bits : ℕ) (keys slots : List ℕ) : Type 0 where
+  pub narrow : bits < 64
+  pub long : length slots ≡ mask + 1 + 2 * length keys
+  pub rises : (slot place : ℕ) → get_or slots slot 0 ≡ suc place → (slot < mask + 1 + 2 * place) × (place < length keys)
+  pub found : (place : ℕ) → place < length keys → Leads mask slots (get_or keys place 0 / 2 ^ bits) (bit_and (get_or keys place 0) mask) place

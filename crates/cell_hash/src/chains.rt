@@ -1,37 +1,53 @@
-ghost use Rattle.std.specs.Prelude.{◌≡◌, ◌≤◌, ◌++◌, ◌∷◌, [], IfOk, OnOk, OnErr, IfSome, IsNone};
-ghost use Rattle.std.specs.Prelude.{length};
+ghost use Rattle.std.specs.Prelude.{◌≡◌, ◌≤◌, ◌<◌, ◌++◌, ◌∷◌, [], IfOk, OnOk, OnErr, IfSome, IsNone};
+ghost use Rattle.std.specs.Prelude.{ℕ, suc, length, get_or};
 ghost use Rattle.cell_hash.specs.Limits.{min_bits, max_bits};
+ghost use Rattle.cell_hash.specs.Chains.{AreChains, IsOnWay};
 ghost use Rattle.cell_hash.specs.Entries.{StandsAt, IsAbsentFrom};
 
 use std::alloc::{AllocError, Global};
 use std::marker::Model;
 
-/// A key, and the place behind the key before it in its bucket; 0 where it is the bucket's first.
-#[derive(Clone, Copy)]
-pub struct Link {
-    pub key: u64,
-    pub before: u32,
-}
-
-/// Keys in the order in which they came, in buckets by their low bits: of each bucket the place
-/// behind its last key, or 0. Clauses see the list of keys.
+/// Keys in the order in which they came, in buckets by their low bits. A slot holds the place
+/// behind a key, or 0: each bucket has one for its first key, and behind them each key has two, for
+/// the next key of its bucket whose next bit is 0, and is 1. Clauses see the list of keys.
 #[derive(Drop)]
 pub struct Chains {
     mask: u64,
-    heads: Vec<u32>,
-    links: Vec<Link>,
+    bits: u32,
+    keys: Vec<u64>,
+    slots: Vec<u32>,
 }
 
 impl Model for Chains {
     ghost use Rattle.std.specs.Prelude.{List, ℕ};
-    ghost use Rattle.cell_hash.specs.Chains.{keys_of, befores_of, AreChains};
+    ghost use Rattle.cell_hash.specs.Chains.{AreChains};
 
     ghost Value = { List ℕ };
 
-    ghost view = { λ c. keys_of c.links.items };
+    ghost view = { λ c. c.keys.items };
 
-    ghost invariant = { λ c. AreChains c.mask c.heads.items (keys_of c.links.items)
-        (befores_of c.links.items) };
+    ghost invariant = { λ c. AreChains c.mask c.bits c.keys.items c.slots.items };
+}
+
+/// The slot where the search for a key ends: an empty one, or the one that names its place.
+fn slot_of(mask: u64, bits: u32, keys: &[u64], slots: &[u32], key: u64) -> usize
+    requires chains { AreChains mask bits keys.now slots.now }
+    ensures within { result < length slots.now }
+    ensures way { IsOnWay mask bits slots.now key result }
+    ensures found { (place : ℕ) → get_or slots.now result 0 ≡ suc place → StandsAt keys.now place key }
+    ensures absent { get_or slots.now result 0 ≡ 0 → IsAbsentFrom keys.now 0 key }
+{
+    let first_behind = mask as usize + 1;
+    let mut rest = key >> bits;
+    let mut slot = (key & mask) as usize;
+    loop {
+        let behind = slots[slot] as usize;
+        if behind == 0 || keys[behind - 1] == key {
+            return slot;
+        }
+        slot = first_behind + 2 * (behind - 1) + (rest % 2) as usize;
+        rest /= 2;
+    }
 }
 
 impl Chains {
@@ -43,8 +59,9 @@ impl Chains {
         let buckets: usize = 1 << bits;
         Ok(Chains {
             mask: (buckets - 1) as u64,
-            heads: Vec::from_elem(alloc, 0, buckets)?,
-            links: Vec::new(alloc),
+            bits,
+            keys: Vec::new(alloc),
+            slots: Vec::from_elem(alloc, 0, buckets)?,
         })
     }
 
@@ -52,7 +69,7 @@ impl Chains {
     pub fn len(&self) -> usize
         ensures value { result ≡ length self.now }
     {
-        self.links.len()
+        self.keys.len()
     }
 
     /// A place of a key, by the chain of its bucket; None exactly where it is absent.
@@ -60,30 +77,27 @@ impl Chains {
         ensures found { IfSome result (λ place. StandsAt self.now place key) }
         ensures none { IsNone result → IsAbsentFrom self.now 0 key }
     {
-        let mut behind = self.heads[(key & self.mask) as usize];
-        while behind > 0 {
-            let place = (behind - 1) as usize;
-            let link = self.links[place];
-            if link.key == key {
-                return Some(place);
-            }
-            behind = link.before;
+        let slot = slot_of(self.mask, self.bits, &self.keys, &self.slots, key);
+        match self.slots[slot] {
+            0 => None,
+            behind => Some((behind - 1) as usize),
         }
-        None
     }
 
-    /// Adds a key behind the others. Where memory runs out nothing is added.
+    /// Adds a key that is absent behind the others. Where memory runs out nothing is added.
     pub fn push(&mut self, key: u64) -> Result<(), AllocError>
+        requires absent { IsAbsentFrom self.old 0 key }
         ensures ok { OnOk result (self.new ≡ self.old ++ key ∷ []) }
         ensures err { OnErr result (self.new ≡ self.old) }
     {
-        let Ok(behind) = u32::try_from(self.links.len() + 1) else {
+        let Ok(behind) = u32::try_from(self.keys.len() + 1) else {
             return Err(AllocError);
         };
-        let bucket = (key & self.mask) as usize;
-        let before = self.heads[bucket];
-        self.links.push(Link { key, before })?;
-        self.heads[bucket] = behind;
+        let slot = slot_of(self.mask, self.bits, &self.keys, &self.slots, key);
+        self.keys.reserve(1)?;
+        self.slots.extend_from_slice(&[0, 0])?;
+        self.keys.push_reserved(key);
+        self.slots[slot] = behind;
         Ok(())
     }
 }

@@ -1,5 +1,5 @@
 //! A table by cell keys: the low bits of a key choose its bucket, and a bucket's chain goes by
-//! places in one vector.
+//! places in one vector and forks by the bits above.
 #![tactic(auto)]
 
 mod chains;

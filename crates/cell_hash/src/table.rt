@@ -4,6 +4,7 @@ ghost use Rattle.std.specs.FinMap as map;
 ghost use Rattle.std.specs.Option.{option_copied, option_copied_mut};
 ghost use Rattle.std.specs.Borrow.{sem};
 ghost use Rattle.cell_hash.specs.Limits.{min_bits, max_bits};
+ghost use Rattle.cell_hash.specs.Entries.{IsAbsentFrom};
 
 use crate::chains::Chains;
 use std::alloc::{AllocError, Global};
@@ -17,9 +18,10 @@ pub struct InsertRefused<T> {
     pub value: T,
 }
 
-/// A finite map from keys to values, by chained hashing (Knuth, volume 3): the low bits of a key
-/// choose its bucket. Keys that are equal in those bits make one chain, so a look-up takes time in
-/// the number of keys in its bucket.
+/// A finite map from keys to values, by hashing with a digital search tree in each bucket (Knuth,
+/// volume 3): the low bits of a key choose its bucket, and the bits above them, one a step, the way
+/// down its chain. So the time of a look-up is bounded by the bits of a key, also where many keys
+/// have equal low bits.
 #[derive(Drop)]
 pub struct CellTable<T> {
     chains: Chains,
@@ -50,6 +52,7 @@ fn add<T: Drop>(
     key: u64,
     value: T,
 ) -> Result<(), InsertRefused<T>>
+    requires absent { IsAbsentFrom chains.old 0 key }
     ensures key { OnOk result (chains.new ≡ chains.old ++ key ∷ []) }
     ensures value { OnOk result (values.new.items ≡ values.old.items ++ value ∷ []) }
     ensures refused { IfErr result (λ r. (r.key ≡ key) × (r.value ≡ value)) }

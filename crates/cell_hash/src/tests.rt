@@ -37,6 +37,21 @@ fn the_most_buckets_and_the_greatest_key(rt: HostRuntime) {
 }
 
 #[test]
+fn a_million_keys(rt: HostRuntime) {
+    // an odd factor gives keys as if at random, a power of 2 keys of one bucket; both end in no time
+    for factor in [0x9e37_79b9_7f4a_7c15_u64, 1 << 16] {
+        let mut table = CellTable::new(rt.alloc(), 16).expect(&rt, "memory");
+        for i in 0..1_000_000 {
+            assert!(rt; table.insert(factor.wrapping_mul(i), i).is_ok());
+        }
+        assert_eq!(rt; table.len(), 1_000_000);
+        for i in 0..1_000_000 {
+            assert_eq!(rt; table.get(factor.wrapping_mul(i)), Some(&i), "by {factor}");
+        }
+    }
+}
+
+#[test]
 fn refused_memory(rt: HostRuntime) {
     // with each allocation failing in turn a refused key and its value come back, and what was
     // there stays

@@ -1,23 +1,32 @@
-use Rattle.std.proofs.Common.{ℕ, suc, ◌≡◌, ◌+◌, ◌<◌, ◌^◌, List, [], ◌∷◌, ◌++◌, arith, sym, length, get_or, set}
-use Rattle.std.specs.Prelude.{bit_and}
-use Rattle.std.proofs.lemmas.Nat.{and_le_r}
-use Rattle.std.proofs.lemmas.List.{length-map, map-append}
-use Rattle.cell_hash.specs.declared.chains.Link.{Link}
-use Rattle.cell_hash.specs.Chains.{keys_of, befores_of, AreChains}
-use Rattle.cell_hash.proofs.Chained.{chains_grow, read_at}
+use Rattle.std.proofs.Common.{ℕ, suc, ◌≡◌, ◌<◌, List, [], ◌∷◌, ◌++◌, length, get_or, set, zero, refl, arith}
+use Rattle.cell_hash.specs.Chains.{AreChains, IsOnWay}
+use Rattle.cell_hash.specs.Entries.{StandsAt, IsAbsentFrom}
+use Rattle.cell_hash.proofs.Chained.{chains_grow}
 use Rattle.cell_hash.proofs.chains.Chains.push.Goals as goal
 
--- the links with one more, which has the head of its bucket before it
-grown : (mask : ℕ) (heads : List ℕ) (links : List Link) (key behind before : ℕ) → AreChains mask heads (keys_of links) (befores_of links) → behind ≡ length links + 1 → behind < 2 ^ 32 → before ≡ get_or heads (bit_and key mask) before
-    → AreChains mask (set heads (bit_and key mask) behind) (keys_of (links ++ (record { key = key; before = before }) ∷ [])) (befores_of (links ++ (record { key = key; before = before }) ∷ []))
-grown mask heads links key behind before chains behind_is few before_is =
-    let long : length (keys_of links) ≡ length links = length-map links (λ (l : Link). l.key) in
-    let end : behind ≡ suc (length (keys_of links)) = omega (arith, behind_is, long) in
-    let head : before ≡ get_or heads (bit_and key mask) 0 = sym (read_at heads _ _ (omega (arith, and_le_r key mask, chains.wide)) before_is) in
-    rw (map-append (λ (l : Link). l.key) links _, map-append (λ (l : Link). l.before) links _, end, head)
-    (chains_grow mask heads (keys_of links) (befores_of links) key chains (omega (arith, few, end)))
+-- the slot where the search for an absent key ends is empty
+is_empty : (keys slots : List ℕ) (key slot : ℕ) → IsAbsentFrom keys 0 key → ((place : ℕ) → get_or slots slot 0 ≡ suc place → StandsAt keys place key) → get_or slots slot 0 ≡ 0
+is_empty keys slots key slot absent found = by_slot (get_or slots slot 0) found
+  where
+    by_slot : (b : ℕ) → ((place : ℕ) → b ≡ suc place → StandsAt keys place key) → b ≡ 0
+    by_slot zero at = refl
+    by_slot (suc place) at = let it = at place refl in absurd (absent place (omega arith) it.within it.key_is)
+
+-- the keys and slots with a key more, which the slot at the end of its way now names
+grown : (mask bits : ℕ) (keys slots : List ℕ) (key slot behind : ℕ) → AreChains mask bits keys slots → slot < length slots → IsOnWay mask bits slots key slot
+    → IsAbsentFrom keys 0 key → ((place : ℕ) → get_or slots slot 0 ≡ suc place → StandsAt keys place key) → behind ≡ suc (length keys)
+    → AreChains mask bits (keys ++ key ∷ []) (set (slots ++ 0 ∷ 0 ∷ []) slot behind)
+grown mask bits keys slots key slot behind chains within way absent found behind_is =
+    rw behind_is (chains_grow mask bits keys slots key slot chains within (is_empty keys slots key slot absent found) way)
 
 pub invariant_of-self-2 : goal.invariant_of-self-2
 invariant_of-self-2 c =
-    rw c.in_ok-push.ensures.items
-    (grown c.self.inside.mask c.self.inside.heads.items c.self.inside.links.items c.args.key c.in-Ok.behind c.index-before.result.now c.self.invariant (omega (arith, c.in-Ok.ensures.1, c.len.ensures, c.self.inside.links.ok)) (omega (arith, c.in-Ok.ensures.0, c.in-Ok.ensures.1)) c.index-before.ensures)
+    let keys = c.deref.ensures.value in
+    let slots = c.deref-2.ensures.value in
+    rw (c.push_reserved.ensures.items, c.in_ok-extend_from_slice.ensures.items, c.in_ok-reserve.ensures.items)
+    (grown c.self.inside.mask c.self.inside.bits c.self.inside.keys.items c.self.inside.slots.items c.args.key c.slot_of-slot.result c.in-Ok.behind c.self.invariant
+    (rw (← slots) c.slot_of-slot.ensures.within)
+    (rw (← slots) c.slot_of-slot.ensures.way)
+    (rw c.self.view_is c.requires.absent)
+    (rw (← slots, ← keys) c.slot_of-slot.ensures.found)
+    (omega (arith, c.in-Ok.ensures.1, c.len.ensures, c.self.inside.keys.ok)))
