@@ -4,8 +4,8 @@
 usage: tools/prove.py CRATE
 
 `rt lib` locks all that lies below a crate, so two of them wait for each other; `rt all check` gives each crate one
-processor, and starts first those with few crates below them. This asks the scheduler of `rt ci` instead: the longest chain
-of crates first, as many crates at a time as there are processors and memory for, and what is to spare for one proof.
+processor, and starts first those with few crates below them. Here the crate with the longest chain of others above it may
+use all processors, and the others fill what it leaves: as many crates at a time as there are processors and memory for.
 RT_JOBS is the number at a time where it is set.
 
 Of each crate that is done it writes a line `== NAME` and what rattle said, nothing where it was built already. It ends at
@@ -24,7 +24,7 @@ import time
 import traceback
 
 TOP = os.path.dirname(os.path.dirname(os.path.abspath(__file__)))
-WANTED = {"rt": ("in_lanes", "need", "rtlib"), "rtlib": ("Crate", "guarded", "lock", "root_above", "stop_on_links", "stop_on_text", "files_of")}
+WANTED = {"rt": ("need", "processors", "free", "rtlib"), "rtlib": ("Crate", "guarded", "lock", "root_above", "stop_on_links", "stop_on_text", "files_of")}
 NO_SCHEDULER = 3
 printing = threading.Lock()
 
@@ -78,6 +78,65 @@ def weight(rtlib, crate):
     return crate.count(rb"\n") + proofs // 4
 
 
+class Lanes:
+    """Tasks side by side, each once those that it waits for have ended: first the one with the longest chain of others behind it."""
+
+    # The most jobs that one proof can use, what each further one takes of its memory, and how much the others give way.
+    MOST_JOBS, MORE_MEMORY, GIVE_WAY = 4, 0.6, 10
+
+    def __init__(self, rt, tasks):
+        number = os.environ.get("RT_JOBS", "")
+        self.lanes = int(number) if number.isdigit() and int(number) > 0 else rt.processors()
+        self.memory, self.tasks = 0.85 * rt.free(), tasks
+        self.behind = self.chains()
+        self.left, self.running, self.given = sorted(tasks, key=lambda it: -self.behind[it]), {}, {}
+        self.changed = threading.Condition()
+
+    def chains(self):
+        """The work of a task with that of the longest chain behind it. Each task comes after those that it waits for."""
+        behind = dict.fromkeys(self.tasks, 0)
+        for key in reversed([*self.tasks]):
+            behind[key] += self.tasks[key][1]
+            for it in self.tasks[key][0]:
+                behind[it] = max(behind[it], behind[key])
+        return behind
+
+    def jobs_of(self, key, ready):
+        """How many processors a task may use: all where no other has a longer chain behind it, else what the others do not need."""
+        is_first = all(self.behind[it] <= self.behind[key] for it in [*self.running, *ready])
+        wanted = self.lanes if is_first else (self.lanes - len(self.running)) // max(len(ready), 1)
+        room = (self.memory - sum(self.running.values())) / self.tasks[key][2]
+        return max(1, min(self.MOST_JOBS, wanted, 1 + int((room - 1) / self.MORE_MEMORY))), is_first
+
+    def run_one(self, key, jobs, is_first):
+        if not is_first and self.lanes > 1:
+            # (what it starts has this thread's priority)
+            os.setpriority(os.PRIO_PROCESS, threading.get_native_id(), self.GIVE_WAY)
+        done = self.tasks[key][3](self.given, jobs)
+        with self.changed:
+            self.given[key] = done
+            del self.running[key]
+            self.changed.notify()
+
+    def start(self):
+        """Starts what may run now."""
+        ready = [it for it in self.left if all(below in self.given for below in self.tasks[it][0])]
+        while ready and len(self.running) < self.lanes:
+            key, needs = ready[0], self.tasks[ready[0]][2]
+            if self.running and needs > self.memory - sum(self.running.values()):
+                return
+            jobs, is_first = self.jobs_of(key, ready)
+            self.left.remove(ready.pop(0))
+            self.running[key] = needs * (1 + self.MORE_MEMORY * (jobs - 1))
+            threading.Thread(target=self.run_one, args=(key, jobs, is_first), daemon=True).start()
+
+    def run(self):
+        with self.changed:
+            while self.left or self.running:
+                self.start()
+                self.changed.wait()
+
+
 def main():
     rt = load_rt()
     if not rt:
@@ -98,7 +157,7 @@ def main():
     for crate in top.below():
         waits = [(it.name, "proof") for it in crate.below()]
         tasks[crate.name, "proof"] = (waits, weight(rtlib, crate), rt.need(crate), functools.partial(work, crate, build(crate)))
-    rt.in_lanes(tasks)
+    Lanes(rt, tasks).run()
     return 0
 
 
