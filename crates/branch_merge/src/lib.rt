@@ -8,10 +8,6 @@ mod laws;
 mod listed;
 mod order;
 mod run;
-#[cfg(test)]
-mod samples;
-#[cfg(test)]
-mod tests;
 mod top;
 mod top_cell;
 

@@ -6,8 +6,6 @@ mod chains;
 mod laws;
 pub mod limits;
 mod table;
-#[cfg(test)]
-mod tests;
 
 pub use laws::last_writes_stand;
 pub use table::{CellTable, InsertRefused};

@@ -16,8 +16,6 @@ mod quotients;
 mod ratio;
 mod roots;
 mod softening;
-#[cfg(test)]
-mod tests;
 mod visit;
 
 pub use laws::forces_by_terms;

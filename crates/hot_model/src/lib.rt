@@ -11,8 +11,6 @@ mod list;
 mod mail;
 mod part;
 mod spread;
-#[cfg(test)]
-mod tests;
 mod visit;
 
 pub use body::{Body, body_of, place_key};

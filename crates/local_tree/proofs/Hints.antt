@@ -1,6 +1,5 @@
 -- The lemmas that the functions name.
 use Rattle.std.proofs.lemmas.List.{take_more}
-use Rattle.local_tree.proofs.Growing.{mass-push}
 use Rattle.local_tree.proofs.Searches.{count-le, place-low, place-high, count-rises}
 
 -- what a search tells of the count
@@ -11,6 +10,3 @@ pub ruleset on_places = (count-le, count-rises)
 
 -- one more item
 pub ruleset on_listed = (take_more)
-
--- one more body
-pub ruleset on_samples = (mass-push)

@@ -6,6 +6,5 @@ pub mod Records
 pub mod Kids
 pub mod Falling
 pub mod Fronts
-pub mod Growing
 pub mod Betweens
 pub mod Hints

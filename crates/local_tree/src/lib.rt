@@ -6,12 +6,8 @@ mod laws;
 mod list;
 mod places;
 mod record;
-#[cfg(test)]
-mod samples;
 mod spans;
 mod table;
-#[cfg(test)]
-mod tests;
 mod tree;
 
 pub use laws::{

@@ -5,8 +5,6 @@
 mod laws;
 mod lists;
 mod sums;
-#[cfg(test)]
-mod tests;
 
 pub use laws::sums_join;
 pub use lists::of_inside;

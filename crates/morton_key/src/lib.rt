@@ -8,8 +8,6 @@ mod family;
 mod key;
 mod laws;
 mod range;
-#[cfg(test)]
-mod tests;
 
 pub use boxes::corner;
 pub use family::{child, parent};

@@ -4,7 +4,6 @@ use Rattle.std.proofs.lemmas.List.{append-nil, map_more}
 use Rattle.std.proofs.lemmas.List.Sums.{sum_by_more, sum_by_more_le, fold_push}
 use Rattle.hot_model.proofs.Walks.{inside-short}
 use Rattle.plain_engine.proofs.Below.{child-lower}
-use Rattle.plain_engine.proofs.Rows.{rows_more, mass_more, rows_differ}
 use Rattle.std.proofs.lemmas.Nat.{mul-le}
 
 -- of the bodies of a cell: what is kept of one item more
@@ -21,9 +20,3 @@ pub ruleset on_known = (inside-short)
 
 -- of the walk: a child has fewer levels below it than its cell
 pub ruleset on_walk = (child-lower)
-
--- of a list that grows: its rows and its mass with one body more
-pub ruleset on_list = (rows_more, mass_more)
-
--- of rows that are places: no two are the same
-pub ruleset on_rows = (rows_differ)

@@ -1,4 +1,3 @@
 pub mod Hints
 pub mod Answer
-pub mod Rows
 pub mod Below

@@ -7,8 +7,3 @@ mod walk;
 
 pub use engine::PlainEngine;
 pub use walk::fold_of;
-
-#[cfg(test)]
-mod list;
-#[cfg(test)]
-mod tests;

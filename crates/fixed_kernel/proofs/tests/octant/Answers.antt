@@ -1,8 +1,0 @@
-use Rattle.std.proofs.Common.{ℕ, sym, subst}
-use Rattle.hot_model.specs.Keys.{IsCell}
-use Rattle.hot_model.proofs.Digits.{key_is_cell}
-use Rattle.fixed_kernel.proofs.tests.octant.Goals as goal
-
-pub covers-requires-clause-key : goal.covers-requires-clause-key
-covers-requires-clause-key c =
-    subst (λ (k : ℕ). IsCell k) (sym c.at.invariant.5) (key_is_cell c.at.inside.x c.at.inside.y c.at.inside.z)

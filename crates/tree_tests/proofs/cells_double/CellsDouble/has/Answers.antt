@@ -1,0 +1,8 @@
+use Rattle.std.proofs.Common.{ℕ, sym, subst}
+use Rattle.hot_model.specs.Keys.{IsCell}
+use Rattle.hot_model.proofs.Digits.{key_is_cell}
+use Rattle.tree_tests.proofs.cells_double.CellsDouble.has.Goals as goal
+
+pub covers-requires-clause-key : goal.covers-requires-clause-key
+covers-requires-clause-key c =
+    subst (λ (k : ℕ). IsCell k) (sym c.b.invariant.5) (key_is_cell c.b.inside.x c.b.inside.y c.b.inside.z)

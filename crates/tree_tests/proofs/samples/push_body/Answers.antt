@@ -1,0 +1,18 @@
+use Rattle.std.proofs.Common.{◌≡◌, ◌<◌, ◌≤◌, ◌-◌, length, get_or, rules, arith, subst, sym}
+use Rattle.hot_model.specs.Keys.{key_of_body}
+use Rattle.hot_model.specs.Values.{BodyValue}
+use Rattle.hot_model.specs.World.{IsBody}
+use Rattle.defer_walk.specs.Listing.{IsListing}
+use Rattle.tree_tests.proofs.Listings.{listing_more}
+use Rattle.tree_tests.proofs.samples.push_body.Goals as goal
+
+pub returns : goal.returns
+returns g c =
+    let xs = c.args.bodies.old.items in
+    let b : BodyValue = c.expect-body.result in
+    let few : length xs < 262144 = search rules in
+    let row : b.row ≡ length xs = search rules in
+    let i : IsBody b = subst (λ (z : BodyValue). IsBody z) c.body.view_is (record { x_in = c.body.invariant.0; y_in = c.body.invariant.1; z_in = c.body.invariant.2; weighs = c.body.invariant.3; light = c.body.invariant.4 }) in
+    let key : c.last_key.result ≤ key_of_body b = subst (λ (z : BodyValue). c.last_key.result ≤ key_of_body z) c.body.view_is (rw c.body.invariant.5 at (let k : c.last_key.result ≤ c.body.inside.key = search rules in k)) in
+    let after : (d : BodyValue) → 0 < length xs → key_of_body (get_or xs (length xs - 1) d) ≤ key_of_body b = (λ d p. let e = c.last_key.ensures.value d p in omega (arith, e, key)) in
+    subst (λ z. IsListing z) (sym (rw c.expect.ensures at c.push.ensures.items)) (listing_more xs b c.requires.listing i few row after)

@@ -1,0 +1,6 @@
+use Rattle.tree_tests.specs.UnderWay.{IsUnderWay}
+use Rattle.tree_tests.proofs.walks.walked.Given as goal
+
+-- the walk is under way
+abbrev pub invariant-loop-n : goal.invariant-loop-n
+invariant-loop-n g l = IsUnderWay g.V.Visit.zero_of g.V.Visit.adds g.V.Visit.opens_by g.V.Acc.Seen.seen_of l.cells l.walk
