@@ -10,15 +10,3 @@ pub mod Advances
 pub mod Bytes
 pub mod Known
 pub mod MadeHeader
-pub mod TokenList
-pub mod Machine
-pub mod Simulation
-pub mod Shorter
-pub mod Leads
-pub mod Sits
-pub mod Faults
-pub mod Kept
-pub mod Decided
-pub mod Judgement
-pub mod Converse
-pub mod Unique

@@ -2,16 +2,12 @@
 pub mod Limits
 pub mod Numbers
 pub mod Tokens
-pub mod TokenList
 pub mod Types
 pub mod Parts
 pub mod Fields
 pub mod Statements
-pub mod Grammar
-pub mod Faults
 pub mod Extent
 pub mod Layouts
 pub mod Verdict
-pub mod Judgement
 pub mod Reading
 pub mod Generated

@@ -6,7 +6,6 @@ mod document;
 mod extent;
 mod fault;
 mod generated;
-mod grammar_laws;
 mod header_fault;
 mod kind;
 mod layout;
@@ -21,7 +20,6 @@ mod types;
 mod verdict;
 
 pub use generated::generated_header_reads;
-pub use grammar_laws::header_is_statements;
 pub use header_fault::{ColName, HeaderFault, ParamName};
 pub use kind::Whole;
 pub use layout::{Col, HeaderError, Layout, Order};

@@ -7,6 +7,18 @@ use Rattle.runs.proofs.rounds.hand.Goals as goal
 here : {X : Type 0} (ss : List X) (q r : ℕ) (d : X) → q ≡ r → r < length ss → slice_get ss r ≡ Some (slice_index_or ss q d)
 here ss q r d e lt = subst (λ (i : ℕ). slice_get ss r ≡ Some (slice_index_or ss i d)) (sym e) (get_at ss r d lt)
 
+-- there is a world for which the receiver stands, and of which the letter is true
+pub take-requires-clause-fits : goal.take-requires-clause-fits
+take-requires-clause-fits g c κs within =
+    c.requires.fits (slice_index_or c.args.ranks.now c.to-to.result c.index-ranks-to.result)
+    (here c.args.ranks.now c.to-to.result c.args.letter.to c.index-ranks-to.result c.to-to.ensures.receiver c.requires.within)
+
+-- the letter is to its receiver
+pub take-requires-clause-mine : goal.take-requires-clause-mine
+take-requires-clause-mine g c κs within =
+    (c.requires.mine (slice_index_or c.args.ranks.now c.to-to.result c.index-ranks-to.result)
+    (here c.args.ranks.now c.to-to.result c.args.letter.to c.index-ranks-to.result c.to-to.ensures.receiver c.requires.within)).0
+
 -- the receiver may take the letter now
 pub take-requires-clause-fresh : goal.take-requires-clause-fresh
 take-requires-clause-fresh g c κs within =

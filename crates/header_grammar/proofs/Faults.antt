@@ -9,17 +9,17 @@ use Rattle.sdf_header.specs.declared.kind.Kind.TheVariants as kinds
 use Rattle.sdf_header.specs.declared.kind.Whole.TheVariants as wholes
 use Rattle.sdf_header.specs.declared.document.Value.TheVariants as values
 use Rattle.sdf_header.specs.Tokens.{Lexeme, Number, Text, End}
-use Rattle.sdf_header.specs.TokenList.{Token, tokens}
+use Rattle.header_grammar.specs.TokenList.{Token, tokens}
 use Rattle.sdf_header.specs.Types.{is_char}
 use Rattle.sdf_header.specs.Fields.{Row}
 use Rattle.sdf_header.specs.Statements.{Header, nothing_given, header_in}
-use Rattle.sdf_header.specs.Grammar.{Spelling, spelling, word, sign, count, TypeName, IsType, Item, FieldLine, Statement, Parameter, Constant, Label, Struct, IsLength, AreItems, IsStatement, spell_type, spell_item, spell_earlier, spell_line, spell_lines, spell, spell_each}
-use Rattle.sdf_header.specs.Faults.{Continues, IsHeader}
-use Rattle.sdf_header.specs.Judgement.{IsOfSense}
-use Rattle.sdf_header.proofs.Machine.{Halt, halt, State, Done, Start, Wants, ParamName, ParamValue, Unsigned, Typed, Named, NumberFor, TextSize, TextValue, Fields, FieldUnsigned, Item as AtItem, ItemName, Length, ItemEnd, StructSize, step, and_then, goes}
-use Rattle.sdf_header.proofs.Simulation.{onward, done, header_goes}
-use Rattle.sdf_header.proofs.Leads.{EndsOrBySense, no_bad_spelling, ends_well}
-use Rattle.sdf_header.proofs.Sits.{spell_each-one, spell_lines-one, are_statements-one, are_lines-one, Before, Whole, InStruct, InLine, Sits, sits_on}
+use Rattle.header_grammar.specs.Grammar.{Spelling, spelling, word, sign, count, TypeName, IsType, Item, FieldLine, Statement, Parameter, Constant, Label, Struct, IsLength, AreItems, IsStatement, spell_type, spell_item, spell_earlier, spell_line, spell_lines, spell, spell_each}
+use Rattle.header_grammar.specs.Faults.{Continues, IsHeader}
+use Rattle.header_grammar.specs.Judgement.{IsOfSense}
+use Rattle.header_grammar.proofs.Machine.{Halt, halt, State, Done, Start, Wants, ParamName, ParamValue, Unsigned, Typed, Named, NumberFor, TextSize, TextValue, Fields, FieldUnsigned, Item as AtItem, ItemName, Length, ItemEnd, StructSize, step, and_then, goes}
+use Rattle.header_grammar.proofs.Simulation.{onward, done, header_goes}
+use Rattle.header_grammar.proofs.Leads.{EndsOrBySense, no_bad_spelling, ends_well}
+use Rattle.header_grammar.proofs.Sits.{spell_each-one, spell_lines-one, are_statements-one, are_lines-one, Before, Whole, InStruct, InLine, Sits, sits_on}
 
 -- ---- at each state the tokens so far can go on to statements
 

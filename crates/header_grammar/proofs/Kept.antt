@@ -9,15 +9,15 @@ use Rattle.sdf_header.specs.declared.fault.FaultKind.TheVariants as faults
 use Rattle.sdf_header.specs.declared.kind.Kind.{Kind}
 use Rattle.sdf_header.specs.declared.document.Value.TheVariants as values
 use Rattle.sdf_header.specs.Tokens.{Lexeme}
-use Rattle.sdf_header.specs.TokenList.{Token}
+use Rattle.header_grammar.specs.TokenList.{Token}
 use Rattle.sdf_header.specs.Types.{is_char}
 use Rattle.sdf_header.specs.Parts.{size_of, unsigned_type}
 use Rattle.sdf_header.specs.Fields.{Row, has_field, length_of, no_fields}
 use Rattle.sdf_header.specs.Statements.{Header, nothing_given, value_of, number_for}
-use Rattle.sdf_header.specs.Grammar.{Spelling, spelling, word, sign}
-use Rattle.sdf_header.proofs.Machine.{Halt, halt, State, Done, Start, Wants, ParamName, ParamValue, Unsigned, Typed, Named, NumberFor, TextSize, TextValue, Fields, FieldUnsigned, Item as AtItem, ItemName, Length, ItemEnd, StructSize, wanted, has, ends, word_in, widened, or_halt, given, closed, on_type, on_statement, on_name, on_item, on_item_end, text_in, step, and_then, goes}
-use Rattle.sdf_header.proofs.Sits.{InLine, Sits, sits_on, wanted_is, or_halt_is, fresh_is, type_is, word_is, sign_is}
-use Rattle.sdf_header.proofs.Faults.{spelling-append}
+use Rattle.header_grammar.specs.Grammar.{Spelling, spelling, word, sign}
+use Rattle.header_grammar.proofs.Machine.{Halt, halt, State, Done, Start, Wants, ParamName, ParamValue, Unsigned, Typed, Named, NumberFor, TextSize, TextValue, Fields, FieldUnsigned, Item as AtItem, ItemName, Length, ItemEnd, StructSize, wanted, has, ends, word_in, widened, or_halt, given, closed, on_type, on_statement, on_name, on_item, on_item_end, text_in, step, and_then, goes}
+use Rattle.header_grammar.proofs.Sits.{InLine, Sits, sits_on, wanted_is, or_halt_is, fresh_is, type_is, word_is, sign_is}
+use Rattle.header_grammar.proofs.Faults.{spelling-append}
 use Rattle.sdf_header.proofs.Choices.{either}
 
 -- ---- the places that a state keeps

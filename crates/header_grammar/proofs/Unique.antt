@@ -5,12 +5,12 @@ use Rattle.std.proofs.lemmas.List.{append-nil}
 use Rattle.sdf_header.specs.declared.fault.FaultKind.{FaultKind}
 use Rattle.sdf_header.specs.declared.fault.FaultKind.TheVariants as faults
 use Rattle.sdf_header.specs.Tokens.{Lexeme}
-use Rattle.sdf_header.specs.TokenList.{Token, tokens}
+use Rattle.header_grammar.specs.TokenList.{Token, tokens}
 use Rattle.sdf_header.specs.Statements.{Header}
-use Rattle.sdf_header.specs.Grammar.{Spelling, spelling, word}
-use Rattle.sdf_header.specs.Faults.{Continues, Stops, TypeWanted, BehindUnsigned, IsTypeWord, Decides, FaultAt, IsHeader}
-use Rattle.sdf_header.specs.Judgement.{IsOfSense}
-use Rattle.sdf_header.proofs.Faults.{spelling-append, front_continues}
+use Rattle.header_grammar.specs.Grammar.{Spelling, spelling, word}
+use Rattle.header_grammar.specs.Faults.{Continues, Stops, TypeWanted, BehindUnsigned, IsTypeWord, Decides, FaultAt, IsHeader}
+use Rattle.header_grammar.specs.Judgement.{IsOfSense}
+use Rattle.header_grammar.proofs.Faults.{spelling-append, front_continues}
 
 -- two places in one list: one before the other, or the same
 data Compared (b c : List Token) (t u : Token) (a d : List Token) : Type 0 where

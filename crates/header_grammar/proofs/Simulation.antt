@@ -11,14 +11,14 @@ use Rattle.sdf_header.specs.declared.kind.Kind.{Kind}
 use Rattle.sdf_header.specs.declared.document.Value.{Value}
 use Rattle.sdf_header.specs.declared.document.Value.TheVariants as values
 use Rattle.sdf_header.specs.Tokens.{Lexeme, Word, Number, Text, Sign, End, Lex, next, syntax_at, ◌>>=◌, or_here}
-use Rattle.sdf_header.specs.TokenList.{Token, token, tokens_behind}
+use Rattle.header_grammar.specs.TokenList.{Token, token, tokens_behind}
 use Rattle.sdf_header.specs.Types.{kind_named, unsigned_kind, bytes_of, is_char}
 use Rattle.sdf_header.specs.Parts.{or_fault, is_the, sign_at, Name, word_of, named, word_at, new_name, size_of, size_at, unsigned_type, unsigned_end, unknown_type_at, name_twice_at, type_at}
 use Rattle.sdf_header.specs.Fields.{Row, Struct, has_field, with_field, length_of, array_at, bracket_in, item_at, items_at, line_at, lines_at, no_fields, struct_at, too_wide_at}
 use Rattle.sdf_header.specs.Statements.{Header, Param, with_param, with_struct, value_of, number_for, is_text, is_end, param_end, parameter_at, text_at, value_at, declaration_at, second_struct_at, statement_at, statements_at, nothing_given, header_in}
-use Rattle.sdf_header.proofs.TokenList.{none_at, listed, listed_behind, first_token, IsSyntax, next_syntax, LeavesLess, next_less}
-use Rattle.sdf_header.proofs.Shorter.{Under, item_less, line_less, statement_less}
-use Rattle.sdf_header.proofs.Machine.{Halt, halt, State, Done, Start, Wants, ParamName, ParamValue, Unsigned, Typed, Named, NumberFor, TextSize, TextValue, Fields, FieldUnsigned, Item, ItemName, Length, ItemEnd, StructSize, wanted, has, word_in, widened, or_halt, given, closed, on_type, on_statement, on_name, on_item_end, on_item, step, and_then, goes}
+use Rattle.header_grammar.proofs.TokenList.{none_at, listed, listed_behind, first_token, IsSyntax, next_syntax, LeavesLess, next_less}
+use Rattle.header_grammar.proofs.Shorter.{Under, item_less, line_less, statement_less}
+use Rattle.header_grammar.proofs.Machine.{Halt, halt, State, Done, Start, Wants, ParamName, ParamValue, Unsigned, Typed, Named, NumberFor, TextSize, TextValue, Fields, FieldUnsigned, Item, ItemName, Length, ItemEnd, StructSize, wanted, has, word_in, widened, or_halt, given, closed, on_type, on_statement, on_name, on_item_end, on_item, step, and_then, goes}
 
 -- what was read goes on like this; a fault ends the run
 abbrev pub onward : {A : Type 0} → ℕ → (A → Result State Halt) → Result A Fault → Result State Halt

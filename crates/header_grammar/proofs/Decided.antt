@@ -13,19 +13,19 @@ use Rattle.sdf_header.specs.declared.kind.Kind.TheVariants as kinds
 use Rattle.sdf_header.specs.declared.kind.Whole.TheVariants as wholes
 use Rattle.sdf_header.specs.declared.document.Value.TheVariants as values
 use Rattle.sdf_header.specs.Tokens.{Lexeme}
-use Rattle.sdf_header.specs.TokenList.{Token, tokens}
+use Rattle.header_grammar.specs.TokenList.{Token, tokens}
 use Rattle.sdf_header.specs.Types.{kind_named, bytes_of, is_char}
 use Rattle.sdf_header.specs.Parts.{size_of, unsigned_type}
 use Rattle.sdf_header.specs.Fields.{Row, has_field, length_of, no_fields}
 use Rattle.sdf_header.specs.Statements.{Header, nothing_given, value_of, number_for, header_in}
-use Rattle.sdf_header.specs.Grammar.{Spelling, spelling, word, sign, and_items, ItemsFit}
-use Rattle.sdf_header.specs.Faults.{Continues, Stops, TypeWanted, BehindUnsigned, IsTypeWord, StandsBehind, IsLead, ColumnStands, HasValues, Plain, Array, Decides, FaultAt}
-use Rattle.sdf_header.specs.Judgement.{IsOfSense}
-use Rattle.sdf_header.proofs.Machine.{Halt, halt, State, Done, Start, Wants, ParamName, ParamValue, Unsigned, Typed, Named, NumberFor, TextSize, TextValue, Fields, FieldUnsigned, Item as AtItem, ItemName, Length, ItemEnd, StructSize, wanted, has, ends, word_in, widened, or_halt, given, closed, on_type, on_statement, on_name, on_item, on_item_end, text_in, step, goes}
-use Rattle.sdf_header.proofs.Simulation.{onward, done, header_goes}
-use Rattle.sdf_header.proofs.Sits.{Before, InLine, Sits, sits_on, word_is, length_is, token_is}
-use Rattle.sdf_header.proofs.Faults.{continues, dead_end, spelling-append, halted, sits_all, nothing_sits, front_continues}
-use Rattle.sdf_header.proofs.Kept.{Kept, KeptItem, Holds, holds_all, TakesUnsigned, AfterUnsigned, after_all, nothing_after}
+use Rattle.header_grammar.specs.Grammar.{Spelling, spelling, word, sign, and_items, ItemsFit}
+use Rattle.header_grammar.specs.Faults.{Continues, Stops, TypeWanted, BehindUnsigned, IsTypeWord, StandsBehind, IsLead, ColumnStands, HasValues, Plain, Array, Decides, FaultAt}
+use Rattle.header_grammar.specs.Judgement.{IsOfSense}
+use Rattle.header_grammar.proofs.Machine.{Halt, halt, State, Done, Start, Wants, ParamName, ParamValue, Unsigned, Typed, Named, NumberFor, TextSize, TextValue, Fields, FieldUnsigned, Item as AtItem, ItemName, Length, ItemEnd, StructSize, wanted, has, ends, word_in, widened, or_halt, given, closed, on_type, on_statement, on_name, on_item, on_item_end, text_in, step, goes}
+use Rattle.header_grammar.proofs.Simulation.{onward, done, header_goes}
+use Rattle.header_grammar.proofs.Sits.{Before, InLine, Sits, sits_on, word_is, length_is, token_is}
+use Rattle.header_grammar.proofs.Faults.{continues, dead_end, spelling-append, halted, sits_all, nothing_sits, front_continues}
+use Rattle.header_grammar.proofs.Kept.{Kept, KeptItem, Holds, holds_all, TakesUnsigned, AfterUnsigned, after_all, nothing_after}
 use Rattle.sdf_header.proofs.Choices.{either}
 
 -- ---- what a token decides

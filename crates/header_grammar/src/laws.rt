@@ -1,7 +1,7 @@
 //! The verdict of a header, in the terms of its tokens and statements.
 
 ghost use Rattle.std.specs.Prelude.{ℕ, List};
-ghost use Rattle.sdf_header.specs.Judgement.{FaultByReason, LayoutOfStatements};
+ghost use Rattle.header_grammar.specs.Judgement.{FaultByReason, LayoutOfStatements};
 
 /// What the verdict of an input is, for every input.
 ///

@@ -4,11 +4,11 @@ use Rattle.hot_model.specs.Limits.{max_columns, max_row_bytes}
 use Rattle.sdf_header.specs.declared.fault.FaultKind.{FaultKind}
 use Rattle.sdf_header.specs.declared.fault.FaultKind.TheVariants as faults
 use Rattle.sdf_header.specs.Tokens.{Lexeme}
-use Rattle.sdf_header.specs.TokenList.{Token, tokens}
+use Rattle.header_grammar.specs.TokenList.{Token, tokens}
 use Rattle.sdf_header.specs.Types.{bytes_of}
 use Rattle.sdf_header.specs.Fields.{Row, has_field, no_fields}
 use Rattle.sdf_header.specs.Statements.{Header, nothing_given}
-use Rattle.sdf_header.specs.Grammar.{Spelling, spelling, word, sign, count, TypeName, IsType, Item, FieldLine, Statement, IsLength, AreItems, AreLines, AreStatements, spell_type, spell_earlier, spell_lines, spell_each, Spells, and_items, ItemsFit, and_lines, LinesFit, AllFit, said}
+use Rattle.header_grammar.specs.Grammar.{Spelling, spelling, word, sign, count, TypeName, IsType, Item, FieldLine, Statement, IsLength, AreItems, AreLines, AreStatements, spell_type, spell_earlier, spell_lines, spell_each, Spells, and_items, ItemsFit, and_lines, LinesFit, AllFit, said}
 
 -- the tokens can go on to statements
 pub record Continues (tokens : Spelling) : Type 0 where

@@ -11,15 +11,15 @@ use Rattle.sdf_header.specs.declared.document.Value.{Value}
 use Rattle.sdf_header.specs.declared.document.Value.TheVariants as values
 use Rattle.sdf_header.specs.Limits.{max_array_length}
 use Rattle.sdf_header.specs.Tokens.{Lexeme, Number, Text, End}
-use Rattle.sdf_header.specs.TokenList.{Token}
+use Rattle.header_grammar.specs.TokenList.{Token}
 use Rattle.sdf_header.specs.Types.{kind_named, unsigned_kind, bytes_of, is_char}
 use Rattle.std.proofs.lemmas.Slice.Eq.{bytes_eq-Decides}
 use Rattle.sdf_header.specs.Parts.{size_of, unsigned_type}
 use Rattle.sdf_header.specs.Fields.{Row, has_field, length_of, no_fields}
 use Rattle.sdf_header.specs.Statements.{Header, with_param, with_struct, value_of, number_for}
-use Rattle.sdf_header.specs.Judgement.{IsOfSense}
-use Rattle.sdf_header.specs.Grammar.{Spelling, spelling, word, sign, count, TypeName, types, type_in, IsType, Item, FieldLine, Statement, Parameter, Constant, Label, Struct, IsSize, IsLength, AreItems, AreLines, IsStatement, AreStatements, spell_type, spell_size, spell_length, spell_item, spell_earlier, spell_line, spell_lines, spell, spell_each, values_of, and_item, ItemFits, and_items, ItemsFit, and_line, and_lines, LinesFit, and_statement, Fits, and_statements, AllFit}
-use Rattle.sdf_header.proofs.Machine.{Halt, halt, State, Done, Start, Wants, ParamName, ParamValue, Unsigned, Typed, Named, NumberFor, TextSize, TextValue, Fields, FieldUnsigned, Item as AtItem, ItemName, Length, ItemEnd, StructSize, wanted, has, or_halt, given, closed, on_type, on_item_end, step, and_then, goes}
+use Rattle.header_grammar.specs.Judgement.{IsOfSense}
+use Rattle.header_grammar.specs.Grammar.{Spelling, spelling, word, sign, count, TypeName, types, type_in, IsType, Item, FieldLine, Statement, Parameter, Constant, Label, Struct, IsSize, IsLength, AreItems, AreLines, IsStatement, AreStatements, spell_type, spell_size, spell_length, spell_item, spell_earlier, spell_line, spell_lines, spell, spell_each, values_of, and_item, ItemFits, and_items, ItemsFit, and_line, and_lines, LinesFit, and_statement, Fits, and_statements, AllFit}
+use Rattle.header_grammar.proofs.Machine.{Halt, halt, State, Done, Start, Wants, ParamName, ParamValue, Unsigned, Typed, Named, NumberFor, TextSize, TextValue, Fields, FieldUnsigned, Item as AtItem, ItemName, Length, ItemEnd, StructSize, wanted, has, or_halt, given, closed, on_type, on_item_end, step, and_then, goes}
 use Rattle.sdf_header.proofs.Choices.{true_false, none_some}
 
 -- a run that halts since what the statements say does not fit

@@ -9,17 +9,17 @@ use Rattle.sdf_header.specs.declared.fault.FaultKind.TheVariants as faults
 use Rattle.sdf_header.specs.declared.kind.Kind.{Kind}
 use Rattle.sdf_header.specs.Limits.{max_array_length}
 use Rattle.sdf_header.specs.Tokens.{Lexeme, Number}
-use Rattle.sdf_header.specs.TokenList.{Token}
+use Rattle.header_grammar.specs.TokenList.{Token}
 use Rattle.sdf_header.specs.Types.{bytes_of}
 use Rattle.sdf_header.specs.Fields.{Row, has_field, length_of, no_fields}
 use Rattle.sdf_header.specs.Statements.{Header, nothing_given}
-use Rattle.sdf_header.specs.Grammar.{Spelling, spelling, word, sign, count, TypeName, IsType, Item, FieldLine, Statement, Parameter, Constant, Label, Struct, AllFit, spell_type, spell_size, spell_length, spell_item, spell_earlier, spell_line, spell_lines, spell, spell_each, and_lines, ItemsFit, LinesFit, said}
-use Rattle.sdf_header.specs.Faults.{StandsBehind, NameGiven, ColumnStands, HasValues, Plain, Array, IsTooWide, Decides}
-use Rattle.sdf_header.specs.Judgement.{IsOfSense}
-use Rattle.sdf_header.proofs.Machine.{Halt, halt, State, Start, Wants, ParamName, ParamValue, Unsigned, Typed, Named, Fields, FieldUnsigned, Item as AtItem, ItemName, wanted, has, word_in, on_name, on_item, step, and_then, goes}
-use Rattle.sdf_header.proofs.Leads.{GoesOn, one, on, lead_type, lead_lines, lead_earlier, lead_each, since_fits}
-use Rattle.sdf_header.proofs.Sits.{sign_is}
-use Rattle.sdf_header.proofs.Faults.{spelling-append}
+use Rattle.header_grammar.specs.Grammar.{Spelling, spelling, word, sign, count, TypeName, IsType, Item, FieldLine, Statement, Parameter, Constant, Label, Struct, AllFit, spell_type, spell_size, spell_length, spell_item, spell_earlier, spell_line, spell_lines, spell, spell_each, and_lines, ItemsFit, LinesFit, said}
+use Rattle.header_grammar.specs.Faults.{StandsBehind, NameGiven, ColumnStands, HasValues, Plain, Array, IsTooWide, Decides}
+use Rattle.header_grammar.specs.Judgement.{IsOfSense}
+use Rattle.header_grammar.proofs.Machine.{Halt, halt, State, Start, Wants, ParamName, ParamValue, Unsigned, Typed, Named, Fields, FieldUnsigned, Item as AtItem, ItemName, wanted, has, word_in, on_name, on_item, step, and_then, goes}
+use Rattle.header_grammar.proofs.Leads.{GoesOn, one, on, lead_type, lead_lines, lead_earlier, lead_each, since_fits}
+use Rattle.header_grammar.proofs.Sits.{sign_is}
+use Rattle.header_grammar.proofs.Faults.{spelling-append}
 
 -- ---- what follows a spelling
 

@@ -19,17 +19,17 @@ use Rattle.sdf_header.specs.Layouts.{LayoutValue}
 use Rattle.sdf_header.specs.Parts.{Names}
 use Rattle.sdf_header.specs.Fields.{Field}
 use Rattle.sdf_header.specs.Statements.{Header, header_in}
-use Rattle.sdf_header.specs.Faults.{FaultAt}
+use Rattle.header_grammar.specs.Faults.{FaultAt}
 use Rattle.sdf_header.specs.Extent.{Extent, Faulty, Ends, Open, extent, extent_from, agrees, magic, ending}
 use Rattle.sdf_header.specs.Verdict.{◌>>=◌, or_fault, column, whole, axes_of, optional_of, order_of, whole_param, small_param, cube_of, mass_of, count_of, layout_of, placed, at_place, judged, unended, verdict_from, verdict}
-use Rattle.sdf_header.specs.Judgement.{SaysOf, TokenFault, IsOfSense, SpellingFault, FaultOf, LayoutOfStatements, FaultByReason}
-use Rattle.sdf_header.proofs.Faults.{is_header, header_is}
-use Rattle.sdf_header.specs.TokenList.{tokens}
-use Rattle.sdf_header.proofs.Machine.{Halt, halt, State}
-use Rattle.sdf_header.proofs.Simulation.{onward, done, header_goes}
-use Rattle.sdf_header.proofs.Converse.{sense_halts}
-use Rattle.sdf_header.proofs.Decided.{fault_at}
-use Rattle.sdf_header.proofs.Unique.{one_fault, fault_stops, header_has_none}
+use Rattle.header_grammar.specs.Judgement.{SaysOf, TokenFault, IsOfSense, SpellingFault, FaultOf, LayoutOfStatements, FaultByReason}
+use Rattle.header_grammar.proofs.Faults.{is_header, header_is}
+use Rattle.header_grammar.specs.TokenList.{tokens}
+use Rattle.header_grammar.proofs.Machine.{Halt, halt, State}
+use Rattle.header_grammar.proofs.Simulation.{onward, done, header_goes}
+use Rattle.header_grammar.proofs.Converse.{sense_halts}
+use Rattle.header_grammar.proofs.Decided.{fault_at}
+use Rattle.header_grammar.proofs.Unique.{one_fault, fault_stops, header_has_none}
 
 -- ---- faults of what statements say are no faults of the text
 

@@ -6,7 +6,7 @@ use Rattle.sdf_header.specs.declared.fault.FaultKind.{FaultKind}
 use Rattle.sdf_header.specs.declared.fault.FaultKind.TheVariants as kinds
 use Rattle.sdf_header.specs.Layouts.{LayoutValue}
 use Rattle.sdf_header.specs.Statements.{Header}
-use Rattle.sdf_header.specs.Faults.{FaultAt, IsHeader}
+use Rattle.header_grammar.specs.Faults.{FaultAt, IsHeader}
 use Rattle.sdf_header.specs.Extent.{Faulty, Ends, Open, extent}
 use Rattle.sdf_header.specs.Verdict.{layout_of, unended, verdict}
 

@@ -13,7 +13,7 @@ use Rattle.sdf_header.specs.Types.{kind_named, is_char}
 use Rattle.sdf_header.specs.Parts.{or_fault, is_the, sign_at, Name, word_of, named, word_at, Names, new_name, size_of, size_at, unsigned_type, unsigned_end, unknown_type_at, name_twice_at, type_at}
 use Rattle.sdf_header.specs.Fields.{Row, Struct, has_field, with_field, length_of, array_at, bracket_in, item_at, items_at, line_at, lines_at, no_fields, struct_at}
 use Rattle.sdf_header.specs.Statements.{Header, Param, value_of, number_for, is_text, param_end, parameter_at, text_at, value_at, declaration_at, statement_at}
-use Rattle.sdf_header.proofs.TokenList.{LeavesLess, next_less}
+use Rattle.header_grammar.proofs.TokenList.{LeavesLess, next_less}
 
 -- fewer than so many bytes are left
 abbrev pub Under : {A : Type 0} → ℕ → (A → List ℕ) → Result A Fault → Type 0

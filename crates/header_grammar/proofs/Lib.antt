@@ -1,0 +1,12 @@
+pub mod TokenList
+pub mod Machine
+pub mod Shorter
+pub mod Simulation
+pub mod Leads
+pub mod Sits
+pub mod Faults
+pub mod Kept
+pub mod Decided
+pub mod Converse
+pub mod Unique
+pub mod Judgement
