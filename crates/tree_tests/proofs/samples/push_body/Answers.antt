@@ -14,5 +14,6 @@ returns g c =
     let row : b.row ≡ length xs = search rules in
     let i : IsBody b = subst (λ (z : BodyValue). IsBody z) c.body.view_is (record { x_in = c.body.invariant.0; y_in = c.body.invariant.1; z_in = c.body.invariant.2; weighs = c.body.invariant.3; light = c.body.invariant.4 }) in
     let key : c.last_key.result ≤ key_of_body b = subst (λ (z : BodyValue). c.last_key.result ≤ key_of_body z) c.body.view_is (rw c.body.invariant.5 at (let k : c.last_key.result ≤ c.body.inside.key = search rules in k)) in
-    let after : (d : BodyValue) → 0 < length xs → key_of_body (get_or xs (length xs - 1) d) ≤ key_of_body b = (λ d p. let e = c.last_key.ensures.value d p in omega (arith, e, key)) in
-    subst (λ z. IsListing z) (sym (rw c.expect.ensures at c.push.ensures.items)) (listing_more xs b c.requires.listing i few row after)
+    let last = rw c.deref.ensures.value at c.last_key.ensures.value in
+    let after : (d : BodyValue) → 0 < length xs → key_of_body (get_or xs (length xs - 1) d) ≤ key_of_body b = (λ d p. let e = last d p in omega (arith, e, key)) in
+    record { listing = subst (λ z. IsListing z) (sym (rw c.expect.ensures at c.push.ensures.items)) (listing_more xs b c.requires.listing i few row after) }
