@@ -4,11 +4,11 @@ use Rattle.std.specs.Prelude.{if◌then◌else◌, is_some, codes, nat_lt, ◌==
 use Rattle.std.proofs.lemmas.Bool.{cases_Bool, le-leb}
 use Rattle.std.proofs.lemmas.List.{length-append}
 use Rattle.hot_model.specs.Limits.{max_columns, max_row_bytes}
-use Rattle.sdf_header.specs.declared.fault.FaultKind.{FaultKind}
-use Rattle.sdf_header.specs.declared.fault.FaultKind.TheVariants as faults
+use Rattle.sdf_tokens.specs.declared.fault.FaultKind.{FaultKind}
+use Rattle.sdf_tokens.specs.declared.fault.FaultKind.TheVariants as faults
 use Rattle.sdf_header.specs.declared.kind.Kind.{Kind}
 use Rattle.sdf_header.specs.Limits.{max_array_length}
-use Rattle.sdf_header.specs.Tokens.{Lexeme, Number}
+use Rattle.sdf_tokens.specs.Tokens.{Lexeme, Number}
 use Rattle.header_grammar.specs.TokenList.{Token}
 use Rattle.sdf_header.specs.Types.{bytes_of}
 use Rattle.sdf_header.specs.Fields.{Row, has_field, length_of, no_fields}

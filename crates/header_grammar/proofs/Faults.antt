@@ -2,13 +2,13 @@
 use Rattle.std.proofs.Common.{◌≡◌, ℕ, ◌-◌, true, List, [], ◌∷◌, ◌++◌, length, map, Some, None, Result, Ok, Err, pos, refl, sym, ap, subst, ◌∙◌, append_assoc, arith}
 use Rattle.std.specs.Prelude.{codes}
 use Rattle.std.proofs.lemmas.List.{append-nil}
-use Rattle.sdf_header.specs.declared.fault.Fault.{Fault}
-use Rattle.sdf_header.specs.declared.fault.FaultKind.{FaultKind}
+use Rattle.sdf_tokens.specs.declared.fault.Fault.{Fault}
+use Rattle.sdf_tokens.specs.declared.fault.FaultKind.{FaultKind}
 use Rattle.sdf_header.specs.declared.kind.Kind.{Kind}
 use Rattle.sdf_header.specs.declared.kind.Kind.TheVariants as kinds
 use Rattle.sdf_header.specs.declared.kind.Whole.TheVariants as wholes
 use Rattle.sdf_header.specs.declared.document.Value.TheVariants as values
-use Rattle.sdf_header.specs.Tokens.{Lexeme, Number, Text, End}
+use Rattle.sdf_tokens.specs.Tokens.{Lexeme, Number, Text, End}
 use Rattle.header_grammar.specs.TokenList.{Token, tokens}
 use Rattle.sdf_header.specs.Types.{is_char}
 use Rattle.sdf_header.specs.Fields.{Row}

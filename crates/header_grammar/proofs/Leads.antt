@@ -4,13 +4,13 @@ use Rattle.std.specs.Prelude.{option_and_then, if◌then◌else◌, is_some, cod
 use Rattle.std.specs.Str.{bytes_eq}
 use Rattle.std.proofs.lemmas.Bool.{cases_Bool, le-leb, lt-ltb}
 use Rattle.hot_model.specs.Limits.{max_columns, max_row_bytes}
-use Rattle.sdf_header.specs.declared.fault.FaultKind.{FaultKind}
-use Rattle.sdf_header.specs.declared.fault.FaultKind.TheVariants as faults
+use Rattle.sdf_tokens.specs.declared.fault.FaultKind.{FaultKind}
+use Rattle.sdf_tokens.specs.declared.fault.FaultKind.TheVariants as faults
 use Rattle.sdf_header.specs.declared.kind.Kind.{Kind}
 use Rattle.sdf_header.specs.declared.document.Value.{Value}
 use Rattle.sdf_header.specs.declared.document.Value.TheVariants as values
 use Rattle.sdf_header.specs.Limits.{max_array_length}
-use Rattle.sdf_header.specs.Tokens.{Lexeme, Number, Text, End}
+use Rattle.sdf_tokens.specs.Tokens.{Lexeme, Number, Text, End}
 use Rattle.header_grammar.specs.TokenList.{Token}
 use Rattle.sdf_header.specs.Types.{kind_named, unsigned_kind, bytes_of, is_char}
 use Rattle.std.proofs.lemmas.Slice.Eq.{bytes_eq-Decides}

@@ -4,11 +4,11 @@ use Rattle.std.specs.Prelude.{if◌then◌else◌, is_some, codes, ◌==◌}
 use Rattle.std.specs.Str.{bytes_eq}
 use Rattle.std.proofs.lemmas.Bool.{cases_Bool}
 use Rattle.hot_model.specs.Limits.{max_columns}
-use Rattle.sdf_header.specs.declared.fault.Fault.{Fault}
+use Rattle.sdf_tokens.specs.declared.fault.Fault.{Fault}
 use Rattle.sdf_header.specs.declared.kind.Kind.{Kind}
 use Rattle.sdf_header.specs.declared.document.Value.{Value}
 use Rattle.sdf_header.specs.declared.document.Value.TheVariants as values
-use Rattle.sdf_header.specs.Tokens.{Lexeme, End, Lex, next, syntax_at, ◌>>=◌, or_here}
+use Rattle.sdf_tokens.specs.Tokens.{Lexeme, End, Lex, next, syntax_at, ◌>>=◌, or_here}
 use Rattle.sdf_header.specs.Types.{kind_named, is_char}
 use Rattle.sdf_header.specs.Parts.{or_fault, is_the, sign_at, Name, word_of, named, word_at, Names, new_name, size_of, size_at, unsigned_type, unsigned_end, unknown_type_at, name_twice_at, type_at}
 use Rattle.sdf_header.specs.Fields.{Row, Struct, has_field, with_field, length_of, array_at, bracket_in, item_at, items_at, line_at, lines_at, no_fields, struct_at}

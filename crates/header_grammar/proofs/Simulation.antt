@@ -4,13 +4,13 @@ use Rattle.std.specs.Prelude.{option_and_then, if◌then◌else◌, is_some, cod
 use Rattle.std.specs.Str.{bytes_eq}
 use Rattle.std.proofs.lemmas.Bool.{cases_Bool}
 use Rattle.hot_model.specs.Limits.{max_columns, max_row_bytes}
-use Rattle.sdf_header.specs.declared.fault.Fault.{Fault}
-use Rattle.sdf_header.specs.declared.fault.FaultKind.{FaultKind}
-use Rattle.sdf_header.specs.declared.fault.FaultKind.TheVariants as faults
+use Rattle.sdf_tokens.specs.declared.fault.Fault.{Fault}
+use Rattle.sdf_tokens.specs.declared.fault.FaultKind.{FaultKind}
+use Rattle.sdf_tokens.specs.declared.fault.FaultKind.TheVariants as faults
 use Rattle.sdf_header.specs.declared.kind.Kind.{Kind}
 use Rattle.sdf_header.specs.declared.document.Value.{Value}
 use Rattle.sdf_header.specs.declared.document.Value.TheVariants as values
-use Rattle.sdf_header.specs.Tokens.{Lexeme, Word, Number, Text, Sign, End, Lex, next, syntax_at, ◌>>=◌, or_here}
+use Rattle.sdf_tokens.specs.Tokens.{Lexeme, Word, Number, Text, Sign, End, Lex, next, syntax_at, ◌>>=◌, or_here}
 use Rattle.header_grammar.specs.TokenList.{Token, token, tokens_behind}
 use Rattle.sdf_header.specs.Types.{kind_named, unsigned_kind, bytes_of, is_char}
 use Rattle.sdf_header.specs.Parts.{or_fault, is_the, sign_at, Name, word_of, named, word_at, new_name, size_of, size_at, unsigned_type, unsigned_end, unknown_type_at, name_twice_at, type_at}

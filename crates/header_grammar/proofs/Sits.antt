@@ -5,13 +5,13 @@ use Rattle.std.specs.Str.{bytes_eq}
 use Rattle.std.proofs.lemmas.Bool.{leb-true, ltb-true, eqb-true}
 use Rattle.std.proofs.lemmas.Slice.Eq.{bytes_eq-Decides}
 use Rattle.hot_model.specs.Limits.{max_columns, max_row_bytes}
-use Rattle.sdf_header.specs.declared.fault.FaultKind.{FaultKind}
-use Rattle.sdf_header.specs.declared.fault.FaultKind.TheVariants as faults
+use Rattle.sdf_tokens.specs.declared.fault.FaultKind.{FaultKind}
+use Rattle.sdf_tokens.specs.declared.fault.FaultKind.TheVariants as faults
 use Rattle.sdf_header.specs.declared.kind.Kind.{Kind}
 use Rattle.sdf_header.specs.declared.document.Value.{Value}
 use Rattle.sdf_header.specs.declared.document.Value.TheVariants as values
 use Rattle.sdf_header.specs.Limits.{max_array_length}
-use Rattle.sdf_header.specs.Tokens.{Lexeme, Word, Number, Text, Sign, End}
+use Rattle.sdf_tokens.specs.Tokens.{Lexeme, Word, Number, Text, Sign, End}
 use Rattle.sdf_header.specs.Types.{kind_named, bytes_of, is_char}
 use Rattle.sdf_header.specs.Parts.{size_of, unsigned_type}
 use Rattle.sdf_header.specs.Fields.{Row, has_field, length_of, no_fields}

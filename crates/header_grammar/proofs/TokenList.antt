@@ -6,11 +6,11 @@ use Rattle.std.specs.Int.{is_in_range}
 use Rattle.std.specs.Char.{is_ascii_digit, is_ascii_hexdigit}
 use Rattle.std.proofs.lemmas.Bool.{cases_Bool}
 use Rattle.std.proofs.Math.Seq.{drop-nil}
-use Rattle.sdf_header.specs.declared.fault.Fault.{Fault}
-use Rattle.sdf_header.specs.declared.fault.FaultKind.TheVariants.{Syntax}
-use Rattle.sdf_header.specs.Limits.{max_text_bytes}
-use Rattle.sdf_header.specs.Numbers.{begins_with, goes_on_word, in_line, in_text, run, is_empty, magnitude, hexadecimal, behind_sign, behind_exponent, behind_mantissa, is_fraction, decimal, is_hexadecimal, goes_on_number, with_sign, number, ◌>>=◌ as ◌>>=o◌}
-use Rattle.sdf_header.specs.Tokens.{Lexeme, Word, Number, Text, Sign, End, Lex, is_blank, begins_word, is_sign, behind_close, comment_end, blank_at, or_here, past_blanks, behind_text, text_lex, number_lex, token_at, next, syntax_at, ◌>>=◌}
+use Rattle.sdf_tokens.specs.declared.fault.Fault.{Fault}
+use Rattle.sdf_tokens.specs.declared.fault.FaultKind.TheVariants.{Syntax}
+use Rattle.sdf_tokens.specs.Limits.{max_text_bytes}
+use Rattle.sdf_tokens.specs.Numbers.{begins_with, goes_on_word, in_line, in_text, run, is_empty, magnitude, hexadecimal, behind_sign, behind_exponent, behind_mantissa, is_fraction, decimal, is_hexadecimal, goes_on_number, with_sign, number, ◌>>=◌ as ◌>>=o◌}
+use Rattle.sdf_tokens.specs.Tokens.{Lexeme, Word, Number, Text, Sign, End, Lex, is_blank, begins_word, is_sign, behind_close, comment_end, blank_at, or_here, past_blanks, behind_text, text_lex, number_lex, token_at, next, syntax_at, ◌>>=◌}
 use Rattle.header_grammar.specs.TokenList.{Token, token, Piece, Blank, Whole, NoForm, token_piece, piece, piece_at, tokens_behind}
 use Rattle.sdf_header.proofs.Choices.{either, none_some, some_is}
 

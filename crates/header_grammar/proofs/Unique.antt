@@ -2,9 +2,9 @@
 use Rattle.std.proofs.Common.{◌≡◌, ℕ, inl, inr, List, [], ◌∷◌, ◌++◌, Option, refl, sym, ap, subst, ◌∙◌, append_assoc}
 use Rattle.std.specs.Prelude.{codes}
 use Rattle.std.proofs.lemmas.List.{append-nil}
-use Rattle.sdf_header.specs.declared.fault.FaultKind.{FaultKind}
-use Rattle.sdf_header.specs.declared.fault.FaultKind.TheVariants as faults
-use Rattle.sdf_header.specs.Tokens.{Lexeme}
+use Rattle.sdf_tokens.specs.declared.fault.FaultKind.{FaultKind}
+use Rattle.sdf_tokens.specs.declared.fault.FaultKind.TheVariants as faults
+use Rattle.sdf_tokens.specs.Tokens.{Lexeme}
 use Rattle.header_grammar.specs.TokenList.{Token, tokens}
 use Rattle.sdf_header.specs.Statements.{Header}
 use Rattle.header_grammar.specs.Grammar.{Spelling, spelling, word}

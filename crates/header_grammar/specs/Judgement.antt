@@ -2,8 +2,8 @@
 use Rattle.std.specs.Prelude.{◌≡◌, ◌↔◌, ◌⊎◌, ℕ, List, take, length, Result, Ok, Err}
 use Rattle.sdf_header.specs.declared.header_fault.HeaderFault.{HeaderFault}
 use Rattle.sdf_header.specs.declared.header_fault.HeaderFault.TheVariants as faults
-use Rattle.sdf_header.specs.declared.fault.FaultKind.{FaultKind}
-use Rattle.sdf_header.specs.declared.fault.FaultKind.TheVariants as kinds
+use Rattle.sdf_tokens.specs.declared.fault.FaultKind.{FaultKind}
+use Rattle.sdf_tokens.specs.declared.fault.FaultKind.TheVariants as kinds
 use Rattle.sdf_header.specs.Layouts.{LayoutValue}
 use Rattle.sdf_header.specs.Statements.{Header}
 use Rattle.header_grammar.specs.Faults.{FaultAt, IsHeader}

@@ -1,8 +1,8 @@
 -- The tokens of a text as one list. Each token stands there with its place, which is the number of bytes in
 -- front of it; the last one is the end of the text, or the first piece of no form.
 use Rattle.std.specs.Prelude.{ℕ, zero, suc, ◌-◌, List, [], ◌∷◌, length, Option, Some, None, Result, Ok, Err}
-use Rattle.sdf_header.specs.declared.fault.Fault.{Fault}
-use Rattle.sdf_header.specs.Tokens.{Lexeme, End, Lex, blank_at, token_at}
+use Rattle.sdf_tokens.specs.declared.fault.Fault.{Fault}
+use Rattle.sdf_tokens.specs.Tokens.{Lexeme, End, Lex, blank_at, token_at}
 
 -- a token and its place; a piece of no form is no lexeme
 pub record Token : Type 0 where

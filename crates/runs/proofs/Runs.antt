@@ -1,5 +1,5 @@
 -- What each event keeps of ranks that run together.
-use Rattle.std.proofs.Common.{◌≡◌, ◌≢◌, ℕ, zero, suc, ◌+◌, ◌<◌, ◌≤◌, Bool, true, false, Option, Some, None, Result, Ok, Err, IsErr, OnOk, OnErr, List, [], ◌∷◌, ◌++◌, length, take, drop, refl, ap, arith, sym, subst, ◌∙◌, inl, inr, slice_get, slice_set, slice_index_or, true≢false}
+use Rattle.std.proofs.Common.{◌≡◌, ◌≢◌, ℕ, zero, suc, ◌+◌, ◌<◌, ◌≤◌, Bool, true, false, Option, Some, None, Result, Ok, Err, IsErr, OnOk, OnErr, List, [], ◌∷◌, ◌++◌, length, take, drop, refl, ap, arith, sym, subst, ◌∙◌, inl, inr, slice_get, slice_set, slice_index_or, true≢false, length-append}
 use Rattle.std.proofs.lemmas.Grind.{common_steps}
 use Rattle.std.specs.declared.alloc.AllocError.{AllocError}
 use Rattle.hot_model.specs.Values.{BodyValue, CellValue}
@@ -25,7 +25,7 @@ use Rattle.protocol.proofs.Keeping.{start_holds}
 use Rattle.protocol.proofs.Taking.{taken_true, legal_take}
 use Rattle.rank_core.specs.Standing.{RankState}
 use Rattle.rank_core.specs.Seats.{seat_of, visit_of, Stepped, PopsOut}
-use Rattle.runs.specs.Running.{most_rounds, seats, ArePlaced, numbers, SameMail, Frame, QuietAt, outbox_len, PopsAt, HandsAt, Together, Running, Over, RoundEnds}
+use Rattle.runs.specs.Running.{most_rounds, seats, ArePlaced, numbers, HasOneMore, SameMail, Frame, QuietAt, outbox_len, PopsAt, HandsAt, Together, Running, Over, RoundEnds}
 
 -- seats of ranks
 pub seat_at : {V A : Type 0} (rs : List (RankState V A)) (q : ℕ) (r : RankState V A) → slice_get rs q ≡ Some r → slice_get (seats rs) q ≡ Some (seat_of r)
@@ -392,6 +392,33 @@ frame_take ss d e l ts n tk = record { len = n; mail = ap (λ (x : Desk). x.mail
 -- a wire that is eager now was eager at the start of the frame
 pub eager_back : {X : Type 0} (ss : List X) (d : Desk) (ts : List X) (e : Desk) → Frame ss d ts e → e.eager e.mail ≡ true → d.eager d.mail ≡ true
 eager_back ss d ts e f h = subst (λ m. d.eager m ≡ true) f.mail (subst (λ g. g e.mail ≡ true) f.eager h)
+
+-- a wire that was eager at the start of the frame is eager
+pub eager_forth : {X : Type 0} (ss : List X) (d : Desk) (ts : List X) (e : Desk) → Frame ss d ts e → d.eager d.mail ≡ true → e.eager e.mail ≡ true
+eager_forth ss d ts e f h = subst (λ m. e.eager m ≡ true) (sym f.mail) (subst (λ g. g d.mail ≡ true) (sym f.eager) h)
+
+-- within a frame the mail stays
+pub frame_mail : {X : Type 0} (ss : List X) (d : Desk) (ts : List X) (e : Desk) → Frame ss d ts e → SameMail d e
+frame_mail ss d ts e f = record { mail = f.mail; eager = f.eager }
+
+-- a frame and the end of a round behind it keep the mail
+pub round_mail : {X : Type 0} (ss : List X) (d : Desk) (ts : List X) (e f : Desk) → Frame ss d ts e → f ≡ rounded e → SameMail d f
+round_mail ss d ts e f a is = record { mail = ap (λ (x : Desk). x.mail) is ∙ a.mail; eager = ap (λ (x : Desk). x.eager) is ∙ a.eager }
+
+-- a frame and the end of a round behind it are one round more
+pub round_more : {X : Type 0} (ss : List X) (d : Desk) (ts : List X) (e f : Desk) → Frame ss d ts e → f ≡ rounded e → HasOneMore d.log f.log
+round_more ss d ts e f a is = ap (λ (x : Desk). rounds_in x.log) is ∙ ap (λ (n : ℕ). 1 + n) a.rounds
+
+-- behind the end of a round the next one starts
+pub round_start : (d e : Desk) → e ≡ rounded d → IsStart e.log
+round_start d e is = subst (λ (x : Desk). IsStart x.log) (sym is) tt
+
+-- a letter that is taken is pending no more
+pub fewer_take : (d e : Desk) (l : LetterValue) → Takes d l e → length e.pending < length d.pending
+fewer_take d e l tk =
+    let a : length d.pending ≡ length (tk.0 ++ l ∷ tk.1) = ap length tk.2 in
+    let b : length e.pending ≡ length (tk.0 ++ tk.1) = ap (λ (x : Desk). length x.pending) tk.3 in
+    omega (arith, a, b, length-append tk.0 tk.1, length-append tk.0 (l ∷ tk.1))
 
 -- the bound on rounds is a small number
 pub bound_fits : (opens : BodyValue → CellValue → Bool) (w : World) → IsGood w → w.ranks ≤ max_ranks → round_bound opens w ≤ most_rounds

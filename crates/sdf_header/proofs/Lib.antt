@@ -1,12 +1,9 @@
 pub mod Choices
-pub mod Numbers
-pub mod Blanks
 pub mod Wider
 pub mod Taken
 pub mod Items
 pub mod Lines
 pub mod Statements
-pub mod Advances
 pub mod Bytes
 pub mod Known
 pub mod MadeHeader

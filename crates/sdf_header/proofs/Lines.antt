@@ -1,9 +1,9 @@
 -- The field lines of a struct, one at a time.
 use Rattle.std.proofs.Common.{◌≡◌, ℕ, zero, suc, ◌<◌, true, false, Result, Ok, Err, List, length, refl, sym, ◌∙◌, arith}
-use Rattle.sdf_header.specs.declared.fault.Fault.{Fault}
+use Rattle.sdf_tokens.specs.declared.fault.Fault.{Fault}
 use Rattle.sdf_header.specs.declared.fault.Stop.{Stop}
 use Rattle.sdf_header.specs.declared.fault.Stop.TheVariants as stops
-use Rattle.sdf_header.specs.Tokens.{Lex, next}
+use Rattle.sdf_tokens.specs.Tokens.{Lex, next}
 use Rattle.sdf_header.specs.Parts.{Fails, is_the}
 use Rattle.sdf_header.specs.Fields.{Row, line_at, lines_at}
 

@@ -3,10 +3,10 @@ use Rattle.std.proofs.Common.{◌≡◌, ℕ, zero, suc, ◌<◌, true, false, N
 use Rattle.std.specs.Borrow.{Bor}
 use Rattle.std.specs.BTreeMap.{BTreeMap, IsEmpty}
 use Rattle.sdf_header.specs.declared.document.Value.{Value}
-use Rattle.sdf_header.specs.declared.fault.Fault.{Fault}
+use Rattle.sdf_tokens.specs.declared.fault.Fault.{Fault}
 use Rattle.sdf_header.specs.declared.fault.Stop.{Stop}
 use Rattle.sdf_header.specs.declared.fault.Stop.TheVariants as stops
-use Rattle.sdf_header.specs.Tokens.{Lex, next}
+use Rattle.sdf_tokens.specs.Tokens.{Lex, next}
 use Rattle.sdf_header.specs.Parts.{Fails, given_of}
 use Rattle.sdf_header.specs.Statements.{Header, nothing_given, is_end, statement_at, statements_at, header_in}
 

@@ -4,7 +4,7 @@ use Rattle.std.specs.List.{starts_with}
 use Rattle.hot_model.specs.Limits.{max_header_bytes}
 use Rattle.sdf_header.specs.declared.header_fault.HeaderFault.{HeaderFault}
 use Rattle.sdf_header.specs.declared.header_fault.HeaderFault.TheVariants.{NoMagic, TooLong}
-use Rattle.sdf_header.specs.Numbers.{begins_with}
+use Rattle.sdf_tokens.specs.Numbers.{begins_with}
 
 -- the bytes agree with the word as far as both go
 abbrev pub agrees : List ℕ → List ℕ → Bool

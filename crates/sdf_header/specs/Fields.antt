@@ -3,14 +3,14 @@ use Rattle.std.specs.Prelude.{ℕ, zero, suc, ◌+◌, ◌*◌, Bool, true, fals
 use Rattle.std.specs.Str.{bytes_eq}
 use Rattle.std.specs.Borrow.{Bor}
 use Rattle.hot_model.specs.Limits.{max_columns, max_row_bytes}
-use Rattle.sdf_header.specs.declared.fault.Fault.{Fault}
-use Rattle.sdf_header.specs.declared.fault.FaultKind.TheVariants.{TooWide}
+use Rattle.sdf_tokens.specs.declared.fault.Fault.{Fault}
+use Rattle.sdf_tokens.specs.declared.fault.FaultKind.TheVariants.{TooWide}
 use Rattle.sdf_header.specs.declared.kind.Kind.{Kind}
 use Rattle.sdf_header.specs.declared.document.Column as declared_column
 use Rattle.sdf_header.specs.declared.document.Columns as declared_columns
 use Rattle.sdf_header.specs.declared.document.Table as declared_table
 use Rattle.sdf_header.specs.Limits.{max_array_length}
-use Rattle.sdf_header.specs.Tokens.{Lexeme, Word, Number, Text, Sign, End, Lex, next, fault_at, syntax_at, ◌>>=◌, or_here}
+use Rattle.sdf_tokens.specs.Tokens.{Lexeme, Word, Number, Text, Sign, End, Lex, next, fault_at, syntax_at, ◌>>=◌, or_here}
 use Rattle.sdf_header.specs.Types.{bytes_of}
 use Rattle.sdf_header.specs.Parts.{name_twice_at, or_fault, is_the, sign_at, Name, named, word_at, size_at, type_at}
 

@@ -1,7 +1,5 @@
 -- The header of a body file, as definitions on whole byte lists.
 pub mod Limits
-pub mod Numbers
-pub mod Tokens
 pub mod Types
 pub mod Parts
 pub mod Fields

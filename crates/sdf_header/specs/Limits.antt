@@ -1,9 +1,5 @@
--- The limits of texts and arrays in a header. All other limits stand in hot_model.
+-- The limit of arrays in a header. All other limits stand in hot_model and sdf_tokens.
 use Rattle.std.specs.Prelude.{ℕ}
-
--- the longest text between quotes, in bytes
-abbrev pub max_text_bytes : ℕ
-max_text_bytes = 4096
 
 -- the longest array column
 abbrev pub max_array_length : ℕ

@@ -7,14 +7,14 @@ use Rattle.std.specs.BTreeMap as tree
 use Rattle.std.specs.BTreeMap.{BTreeMap}
 use Rattle.std.specs.Cmp.Lexicographic.{slice_cmp}
 use Rattle.std.specs.Ordering.{nat_cmp}
-use Rattle.sdf_header.specs.declared.fault.Fault.{Fault}
-use Rattle.sdf_header.specs.declared.fault.FaultKind.TheVariants.{UnknownType, NameTwice}
+use Rattle.sdf_tokens.specs.declared.fault.Fault.{Fault}
+use Rattle.sdf_tokens.specs.declared.fault.FaultKind.TheVariants.{UnknownType, NameTwice}
 use Rattle.sdf_header.specs.declared.fault.Stop.{Stop}
 use Rattle.sdf_header.specs.declared.fault.Stop.TheVariants as stops
 use Rattle.sdf_header.specs.declared.kind.Kind.{Kind}
 use Rattle.sdf_header.specs.declared.document.Named.{Named}
 use Rattle.sdf_header.specs.declared.document.Value.{Value}
-use Rattle.sdf_header.specs.Tokens.{Lexeme, Word, Number, Text, Sign, End, Lex, next, fault_at, syntax_at, ◌>>=◌}
+use Rattle.sdf_tokens.specs.Tokens.{Lexeme, Word, Number, Text, Sign, End, Lex, next, fault_at, syntax_at, ◌>>=◌}
 use Rattle.sdf_header.specs.Types.{kind_named, unsigned_kind}
 
 -- ---- faults at a place

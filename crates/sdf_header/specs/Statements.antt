@@ -2,15 +2,15 @@
 use Rattle.std.specs.Prelude.{ℕ, zero, suc, Bool, true, false, ◌&&◌, List, length, Option, Some, None, is_some, Result, Ok, Err, ℤ, if◌then◌else◌, codes}
 use Rattle.std.specs.Str.{bytes_eq}
 use Rattle.std.specs.Borrow.{Bor}
-use Rattle.sdf_header.specs.declared.fault.Fault.{Fault}
-use Rattle.sdf_header.specs.declared.fault.FaultKind.TheVariants.{SecondStruct}
+use Rattle.sdf_tokens.specs.declared.fault.Fault.{Fault}
+use Rattle.sdf_tokens.specs.declared.fault.FaultKind.TheVariants.{SecondStruct}
 use Rattle.sdf_header.specs.declared.kind.Kind.{Kind}
 use Rattle.sdf_header.specs.declared.document.Value.{Value}
 use Rattle.sdf_header.specs.declared.document.Value.TheVariants as values
 use Rattle.sdf_header.specs.declared.document.Given as declared_given
 use Rattle.sdf_header.specs.declared.document.Table as declared_table
 use Rattle.sdf_header.specs.declared.document.Document as declared_document
-use Rattle.sdf_header.specs.Tokens.{Lexeme, Word, Number, Text, Sign, End, Lex, next, fault_at, syntax_at, ◌>>=◌}
+use Rattle.sdf_tokens.specs.Tokens.{Lexeme, Word, Number, Text, Sign, End, Lex, next, fault_at, syntax_at, ◌>>=◌}
 use Rattle.sdf_header.specs.Types.{is_whole, is_char}
 use Rattle.sdf_header.specs.Parts.{or_fault, is_the, sign_at, Name, named, Names, given_of, new_name, size_at, type_at}
 use Rattle.sdf_header.specs.Fields.{Struct, struct_of, struct_at}

@@ -9,9 +9,9 @@ use Rattle.sdf_header.specs.declared.header_fault.ColName.{ColName}
 use Rattle.sdf_header.specs.declared.header_fault.ColName.TheVariants as columns
 use Rattle.sdf_header.specs.declared.header_fault.ParamName.{ParamName}
 use Rattle.sdf_header.specs.declared.header_fault.ParamName.TheVariants as names
-use Rattle.sdf_header.specs.declared.fault.Fault.{Fault}
-use Rattle.sdf_header.specs.declared.fault.FaultKind.{FaultKind}
-use Rattle.sdf_header.specs.declared.fault.FaultKind.TheVariants as parse
+use Rattle.sdf_tokens.specs.declared.fault.Fault.{Fault}
+use Rattle.sdf_tokens.specs.declared.fault.FaultKind.{FaultKind}
+use Rattle.sdf_tokens.specs.declared.fault.FaultKind.TheVariants as parse
 use Rattle.sdf_header.specs.declared.kind.Kind.{Kind}
 use Rattle.sdf_header.specs.declared.kind.Kind.TheVariants as kinds
 use Rattle.sdf_header.specs.declared.document.Value.{Value}

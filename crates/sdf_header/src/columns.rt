@@ -2,21 +2,21 @@
 
 ghost use Rattle.std.specs.Prelude.{◌≡◌, ◌≤◌, ◌<◌, length, suc, ℕ, IfOk, IfSome};
 ghost use Rattle.sdf_header.specs.Limits.{max_array_length};
-ghost use Rattle.sdf_header.specs.Tokens.{lex_of, lexeme_of, next, Advances};
-ghost use Rattle.sdf_header.specs.Numbers.{sees_rest};
+ghost use Rattle.sdf_tokens.specs.Tokens.{lex_of, lexeme_of, next, Advances};
+ghost use Rattle.sdf_tokens.specs.Numbers.{sees_rest};
 ghost use Rattle.sdf_header.specs.Parts.{Gives, name_of};
 ghost use Rattle.sdf_header.specs.Fields.{fields_of, row_of, struct_and_rest, has_field};
 ghost use Rattle.sdf_header.specs.Fields.{with_field, length_of, array_at, bracket_in, item_at};
 ghost use Rattle.sdf_header.specs.Fields.{items_at, line_at, lines_at, struct_at};
 
 use crate::document::{Column, Columns, Named, Table};
-use crate::fault::{Fault, FaultKind, Stop};
+use crate::fault::Stop;
 use crate::kind::Kind;
 use crate::limits::MAX_ARRAY_LENGTH;
 use crate::parts::{is_the, named, sign_at, size_at, type_at, word_at};
-use crate::token::{Lexed, Token, fault_at, next, syntax_at};
 use crate::types::bytes_of;
 use hot_model::limits::{MAX_COLUMNS, MAX_ROW_BYTES};
+use sdf_tokens::{Fault, FaultKind, Lexed, Token, fault_at, next, syntax_at};
 use std::alloc::Global;
 
 fn has_field(name: &[u8], columns: &[Column<'_>]) -> bool

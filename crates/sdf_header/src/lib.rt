@@ -10,12 +10,10 @@ mod header_fault;
 mod kind;
 mod layout;
 mod limits;
-mod number;
 mod parts;
 mod pieces;
 mod reader;
 mod statement;
-mod token;
 mod types;
 mod verdict;
 

@@ -1,7 +1,4 @@
-//! The limits of texts and arrays in a header: the numbers of specs/Limits.antt for the code.
-
-/// The longest text between quotes, in bytes.
-pub const MAX_TEXT_BYTES: usize = 4096;
+//! The limit of arrays in a header: the number of specs/Limits.antt for the code.
 
 /// The longest array column.
 pub const MAX_ARRAY_LENGTH: u32 = 1024;

@@ -1,15 +1,14 @@
 //! The parts that statements are made of: signs, words, names, sizes and types.
 
 ghost use Rattle.std.specs.Prelude.{◌≡◌, ◌≤◌, ◌<◌, length, ℕ, IfOk};
-ghost use Rattle.sdf_header.specs.Tokens.{Is, lex_of, lexeme_of, Advances};
+ghost use Rattle.sdf_tokens.specs.Tokens.{Is, lex_of, lexeme_of, Advances};
 ghost use Rattle.sdf_header.specs.Parts.{name_of, is_the, sign_at, named, word_at, given_of};
 ghost use Rattle.sdf_header.specs.Parts.{new_name, size_of, size_at, type_at, second_ref};
 
 use crate::document::{Named, Value};
-use crate::fault::{Fault, FaultKind};
 use crate::kind::Kind;
-use crate::token::{Lexed, Token, fault_at, next, syntax_at};
 use crate::types::{kind_named, unsigned_kind};
+use sdf_tokens::{Fault, FaultKind, Lexed, Token, fault_at, next, syntax_at};
 use std::collections::BTreeMap;
 
 pub fn is_the(sign: u8, token: Token<'_>) -> bool

@@ -1,7 +1,7 @@
 //! The statements of a header.
 
 ghost use Rattle.std.specs.Prelude.{◌≡◌, ◌≤◌, ◌<◌, length, ℕ, Ok, IfOk};
-ghost use Rattle.sdf_header.specs.Tokens.{Is, lex_of, lexeme_of, Advances};
+ghost use Rattle.sdf_tokens.specs.Tokens.{Is, lex_of, lexeme_of, Advances};
 ghost use Rattle.sdf_header.specs.Parts.{Gives, given_of, name_of};
 ghost use Rattle.sdf_header.specs.Statements.{param_of, param_and_rest, header_of, param_end};
 ghost use Rattle.sdf_header.specs.Statements.{number_value, value_of, parameter_at, number_for};
@@ -11,11 +11,11 @@ ghost use Rattle.sdf_header.specs.Statements.{typed_statement, statement_at, is_
 
 use crate::columns::struct_at;
 use crate::document::{Document, Given, Named, Value};
-use crate::fault::{Fault, FaultKind, Stop};
+use crate::fault::Stop;
 use crate::kind::Kind;
 use crate::parts::{is_the, named, new_name, sign_at, size_at, type_at};
-use crate::token::{Lexed, Token, fault_at, next, syntax_at};
 use crate::types::{is_char, is_whole};
+use sdf_tokens::{Fault, FaultKind, Lexed, Token, fault_at, next, syntax_at};
 use std::alloc::Global;
 use std::collections::BTreeMap;
 

@@ -12,13 +12,14 @@ ghost use Rattle.sdf_header.specs.Verdict.{optional_of, order_of, whole_param, s
 ghost use Rattle.sdf_header.specs.Verdict.{cube_of, mass_of, count_of, layout_of, judged, at_place};
 
 use crate::document::{Columns, Document, Value};
-use crate::fault::{Fault, FaultKind, Stop};
+use crate::fault::Stop;
 use crate::header_fault::{ColName, HeaderFault, ParamName};
 use crate::kind::Kind;
 use crate::layout::{Col, HeaderError, Layout, Order};
 use crate::statement::header_in;
 use hot_model::Cube;
 use hot_model::limits::{FINE_BITS, MAX_BODIES, MAX_BODY_MASS};
+use sdf_tokens::{Fault, FaultKind};
 use std::alloc::Global;
 use std::collections::BTreeMap;
 

@@ -12,8 +12,8 @@ use Rattle.sdf_header.specs.declared.kind.Kind.TheVariants as kinds
 use Rattle.sdf_header.specs.declared.document.Value.TheVariants as values
 use Rattle.sdf_header.specs.declared.layout.Order.TheVariants.{Least}
 use Rattle.sdf_header.specs.Extent.{whole_lines, first_ending, ending, extent, Ends}
-use Rattle.sdf_header.specs.Numbers.{magnitude, hexadecimal, behind_exponent, behind_mantissa, decimal, with_sign, number}
-use Rattle.sdf_header.specs.Tokens.{behind_close, blank_at, past_blanks, behind_text, token_at, next}
+use Rattle.sdf_tokens.specs.Numbers.{magnitude, hexadecimal, behind_exponent, behind_mantissa, decimal, with_sign, number}
+use Rattle.sdf_tokens.specs.Tokens.{behind_close, blank_at, past_blanks, behind_text, token_at, next}
 use Rattle.sdf_header.specs.Parts.{sign_at, word_at, new_name, size_at, type_at}
 use Rattle.sdf_header.specs.Fields.{Row, with_field, array_at, item_at, items_at, line_at, lines_at, struct_at, no_fields}
 use Rattle.sdf_header.specs.Statements.{Header, with_param, with_struct, param_end, parameter_at, text_at, value_at, declaration_at, statement_at, header_in}

@@ -1,7 +1,10 @@
-use Rattle.std.proofs.Common.{ap, ◌∙◌}
+use Rattle.std.proofs.Common.{ap, length, ◌∙◌}
+use Rattle.protocol.proofs.Places.{set_len}
 use Rattle.rank_core.specs.Standing.{StandsIn}
+use Rattle.round_runner.specs.Desk.{Desk}
+use Rattle.protocol.specs.Logs.{taken_since}
 use Rattle.runs.specs.Running.{numbers}
-use Rattle.runs.proofs.Runs.{taken_letter, taken_within, taken_legal, taken_fresh, running_take, hands_quiet, numbers_set}
+use Rattle.runs.proofs.Runs.{taken_letter, taken_within, taken_legal, taken_fresh, running_take, hands_quiet, numbers_set, frame_take, fewer_take}
 use Rattle.runs.proofs.rounds.deliver_one.Goals as goal
 
 -- the receiver of the letter is one of the ranks
@@ -43,3 +46,35 @@ returns-clause-kept g c = λ v w j. running_take g.V.Visit.opens_by (StandsIn g.
 -- where the letter was handed over, outboxes that were all empty are so
 pub returns-clause-quiet : goal.returns-clause-quiet
 returns-clause-quiet g c = λ qt. hands_quiet (StandsIn g.V.Visit g.V.Acc.Seen) c.args.ranks.now c.in-Some.letter c.hand.new.ranks c.in_ok-hand-in-Some.field-0 c.in_ok-hand-in-Some.ensures.handed qt
+
+-- where the receiver is refused memory, the frame is kept
+pub returns-in_err-hand-in-Some-clause-frame : goal.returns-in_err-hand-in-Some-clause-frame
+returns-in_err-hand-in-Some-clause-frame g c = frame_take c.args.ranks.now (g.M.Wire.desk c.args.wire.now) (g.M.Wire.desk c.take.new.self) c.in-Some.letter c.hand.new.ranks (let h = c.in_err-hand-in-Some.ensures.handed in ap length h.3 ∙ set_len c.args.ranks.now c.in-Some.letter.to h.1) c.in-Some.ensures.taken_or_none
+
+-- where the letter was handed over, the frame is kept
+pub returns-clause-frame : goal.returns-clause-frame
+returns-clause-frame g c = frame_take c.args.ranks.now (g.M.Wire.desk c.args.wire.now) (g.M.Wire.desk c.take.new.self) c.in-Some.letter c.hand.new.ranks (let h = c.in_ok-hand-in-Some.ensures.handed in ap length h.3 ∙ set_len c.args.ranks.now c.in-Some.letter.to h.1) c.in-Some.ensures.taken_or_none
+
+-- where the receiver is refused memory, one letter less is pending
+pub returns-in_err-hand-in-Some-clause-fewer : goal.returns-in_err-hand-in-Some-clause-fewer
+returns-in_err-hand-in-Some-clause-fewer g c = fewer_take (g.M.Wire.desk c.args.wire.now) (g.M.Wire.desk c.take.new.self) c.in-Some.letter c.in-Some.ensures.taken_or_none
+
+-- where the letter was handed over, one letter less is pending
+pub returns-clause-fewer : goal.returns-clause-fewer
+returns-clause-fewer g c = fewer_take (g.M.Wire.desk c.args.wire.now) (g.M.Wire.desk c.take.new.self) c.in-Some.letter c.in-Some.ensures.taken_or_none
+
+-- where the receiver is refused memory, a letter was taken in this round
+pub returns-in_err-hand-in-Some-clause-taken : goal.returns-in_err-hand-in-Some-clause-taken
+returns-in_err-hand-in-Some-clause-taken g c = ap (λ (y : Desk). taken_since y.log) c.in-Some.ensures.taken_or_none.3
+
+-- where the letter was handed over, a letter was taken in this round
+pub returns-clause-taken : goal.returns-clause-taken
+returns-clause-taken g c = ap (λ (y : Desk). taken_since y.log) c.in-Some.ensures.taken_or_none.3
+
+-- where the receiver is refused memory, the turn is used
+pub returns-in_err-hand-in-Some-clause-used : goal.returns-in_err-hand-in-Some-clause-used
+returns-in_err-hand-in-Some-clause-used g c = ap (λ (y : Desk). y.turn) c.in-Some.ensures.taken_or_none.3
+
+-- where the letter was handed over, the turn is used
+pub returns-clause-used : goal.returns-clause-used
+returns-clause-used g c = ap (λ (y : Desk). y.turn) c.in-Some.ensures.taken_or_none.3

@@ -7,6 +7,10 @@ use Rattle.runs.proofs.rounds.hand.Goals as goal
 here : {X : Type 0} (ss : List X) (q r : ℕ) (d : X) → q ≡ r → r < length ss → slice_get ss r ≡ Some (slice_index_or ss q d)
 here ss q r d e lt = subst (λ (i : ℕ). slice_get ss r ≡ Some (slice_index_or ss i d)) (sym e) (get_at ss r d lt)
 
+-- the receiver is one of the ranks
+pub bounds-ranks-to : goal.bounds-ranks-to
+bounds-ranks-to g c = subst (λ (i : ℕ). i < length c.args.ranks.now) (sym c.to-to.ensures.receiver) c.requires.within
+
 -- there is a world for which the receiver stands, and of which the letter is true
 pub take-requires-clause-fits : goal.take-requires-clause-fits
 take-requires-clause-fits g c κs within =

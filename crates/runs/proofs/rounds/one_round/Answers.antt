@@ -1,7 +1,7 @@
-use Rattle.std.proofs.Common.{slice_index_or, sym, ◌∙◌}
+use Rattle.std.proofs.Common.{slice_index_or, sym, ◌∙◌, inl}
 use Rattle.protocol.proofs.Places.{get_at}
 use Rattle.rank_core.specs.Standing.{StandsIn}
-use Rattle.runs.proofs.Runs.{running_step, worked_step, running_round, round_last, legal_round, round_err, room_left, nil_of, eager_back, numbers_step}
+use Rattle.runs.proofs.Runs.{running_step, worked_step, running_round, round_last, legal_round, round_err, room_left, nil_of, eager_back, numbers_step, frame_on, frame_mail, round_mail, round_more, round_start}
 use Rattle.runs.proofs.rounds.one_round.Goals as goal
 
 -- there is a world for which all ranks stand
@@ -81,3 +81,51 @@ returns-in_err-busy-clause-places g c = c.in_err-busy.ensures.places ∙ c.in_ok
 -- with letters taken, the ranks have their numbers
 pub returns-clause-places : goal.returns-clause-places
 returns-clause-places g c = c.in_ok-busy.ensures.places ∙ c.in_ok-post_all.ensures.places ∙ numbers_step c.args.ranks.now c.step_all.new.ranks c.step_all.ensures.len (λ k d lt. (c.step_all.ensures.each k d lt).me)
+
+-- where a posting is refused, the mail stays
+pub returns-in_err-post_all-clause-mail : goal.returns-in_err-post_all-clause-mail
+returns-in_err-post_all-clause-mail g c = frame_mail c.step_all.new.ranks (g.M.Wire.desk c.args.wire.now) c.post_all.new.ranks (g.M.Wire.desk c.post_all.new.wire) c.in_err-post_all.ensures.frame
+
+-- with nothing pending after the posting, the mail stays
+pub returns-then-pending-eq0-clause-mail : goal.returns-then-pending-eq0-clause-mail
+returns-then-pending-eq0-clause-mail g c = round_mail c.step_all.new.ranks (g.M.Wire.desk c.args.wire.now) c.post_all.new.ranks (g.M.Wire.desk c.post_all.new.wire) (g.M.Wire.desk c.round.new.self) c.in_ok-post_all.ensures.frame c.round.ensures.ended
+
+-- where memory is refused for a letter, the mail stays
+pub returns-in_err-busy-clause-mail : goal.returns-in_err-busy-clause-mail
+returns-in_err-busy-clause-mail g c = frame_mail c.step_all.new.ranks (g.M.Wire.desk c.args.wire.now) c.deliver.new.ranks (g.M.Wire.desk c.deliver.new.wire) (frame_on c.step_all.new.ranks (g.M.Wire.desk c.args.wire.now) c.post_all.new.ranks (g.M.Wire.desk c.post_all.new.wire) c.deliver.new.ranks (g.M.Wire.desk c.deliver.new.wire) c.in_ok-post_all.ensures.frame c.in_err-busy.ensures.frame)
+
+-- with letters taken, the mail stays
+pub returns-clause-mail : goal.returns-clause-mail
+returns-clause-mail g c = round_mail c.step_all.new.ranks (g.M.Wire.desk c.args.wire.now) c.deliver.new.ranks (g.M.Wire.desk c.deliver.new.wire) (g.M.Wire.desk c.round-2.new.self) (frame_on c.step_all.new.ranks (g.M.Wire.desk c.args.wire.now) c.post_all.new.ranks (g.M.Wire.desk c.post_all.new.wire) c.deliver.new.ranks (g.M.Wire.desk c.deliver.new.wire) c.in_ok-post_all.ensures.frame c.in_ok-busy.ensures.frame) c.round-2.ensures.ended
+
+-- with nothing pending after the posting, there is one round more
+pub returns-then-pending-eq0-clause-rounds : goal.returns-then-pending-eq0-clause-rounds
+returns-then-pending-eq0-clause-rounds g c = round_more c.step_all.new.ranks (g.M.Wire.desk c.args.wire.now) c.post_all.new.ranks (g.M.Wire.desk c.post_all.new.wire) (g.M.Wire.desk c.round.new.self) c.in_ok-post_all.ensures.frame c.round.ensures.ended
+
+-- with letters taken, there is one round more
+pub returns-clause-rounds : goal.returns-clause-rounds
+returns-clause-rounds g c = round_more c.step_all.new.ranks (g.M.Wire.desk c.args.wire.now) c.deliver.new.ranks (g.M.Wire.desk c.deliver.new.wire) (g.M.Wire.desk c.round-2.new.self) (frame_on c.step_all.new.ranks (g.M.Wire.desk c.args.wire.now) c.post_all.new.ranks (g.M.Wire.desk c.post_all.new.wire) c.deliver.new.ranks (g.M.Wire.desk c.deliver.new.wire) c.in_ok-post_all.ensures.frame c.in_ok-busy.ensures.frame) c.round-2.ensures.ended
+
+-- with nothing pending after the posting, the next round starts
+pub returns-then-pending-eq0-clause-start : goal.returns-then-pending-eq0-clause-start
+returns-then-pending-eq0-clause-start g c = round_start (g.M.Wire.desk c.post_all.new.wire) (g.M.Wire.desk c.round.new.self) c.round.ensures.ended
+
+-- with letters taken, the next round starts
+pub returns-clause-start : goal.returns-clause-start
+returns-clause-start g c = round_start (g.M.Wire.desk c.deliver.new.wire) (g.M.Wire.desk c.round-2.new.self) c.round-2.ensures.ended
+
+-- where a rank is starved, the log is legal
+pub returns-then-any_starved-clause-kept : goal.returns-then-any_starved-clause-kept
+returns-then-any_starved-clause-kept g c = λ v w j. j.joint.legal
+
+-- where a rank is starved, the log is legal, as told of the log alone
+pub returns-then-any_starved-clause-legal : goal.returns-then-any_starved-clause-legal
+returns-then-any_starved-clause-legal g c = λ v w j. j.joint.legal
+
+-- with nothing pending after the posting, the wire may end the round
+pub round-requires-clause-over : goal.round-requires-clause-over
+round-requires-clause-over g c = inl (nil_of (g.M.Wire.desk c.post_all.new.wire).pending (sym c.pending.ensures.count ∙ c.if-pending-eq0.true))
+
+-- no letter more may be taken in the round
+pub round-requires-2-clause-over : goal.round-requires-2-clause-over
+round-requires-2-clause-over g c = c.in_ok-busy.ensures.over

@@ -1,7 +1,7 @@
 use Rattle.std.proofs.Common.{sym, ◌∙◌, arith}
 use Rattle.std.proofs.lemmas.Result.{err_from_is_err_and}
-use Rattle.sdf_header.specs.Tokens.{lex_of}
-use Rattle.sdf_header.proofs.Advances.{advances_le}
+use Rattle.sdf_tokens.specs.Tokens.{lex_of}
+use Rattle.sdf_tokens.proofs.Advances.{advances_le}
 use Rattle.sdf_header.proofs.Items.{more, done, no_sign, item_ends, next_fails}
 use Rattle.sdf_header.proofs.columns.items_at.Goals as goal
 

@@ -1,6 +1,6 @@
 use Rattle.std.proofs.Common.{sym, ◌∙◌, arith}
 use Rattle.std.proofs.lemmas.Result.{err_from_is_err_and}
-use Rattle.sdf_header.specs.Tokens.{lex_of}
+use Rattle.sdf_tokens.specs.Tokens.{lex_of}
 use Rattle.sdf_header.proofs.Lines.{more, done, step_ends, next_fails}
 use Rattle.sdf_header.proofs.columns.lines_at.Goals as goal
 

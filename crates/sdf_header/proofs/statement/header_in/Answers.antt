@@ -1,7 +1,7 @@
 use Rattle.std.proofs.Common.{◌≡◌, None, sym, ◌∙◌}
 use Rattle.std.proofs.lemmas.Result.{err_from_is_err_and}
 use Rattle.sdf_header.specs.Parts.{given_of}
-use Rattle.sdf_header.specs.Tokens.{lex_of}
+use Rattle.sdf_tokens.specs.Tokens.{lex_of}
 use Rattle.sdf_header.proofs.Statements.{none_given, begin, more, done, step_ends, next_fails}
 use Rattle.sdf_header.proofs.statement.header_in.Goals as goal
 
