@@ -15,8 +15,6 @@ mod parts;
 mod reading;
 mod skim;
 mod sums;
-#[cfg(test)]
-mod tests;
 
 pub use content::{Content, Kind, LetterError};
 pub use laws::{one_content, one_spelling};

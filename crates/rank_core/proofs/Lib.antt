@@ -15,8 +15,5 @@ pub mod Counting
 pub mod Moving
 pub mod Results
 pub mod Finishing
-pub mod Samples
 pub mod Calls
 pub mod Agreeing
-pub mod Letters
-pub mod Rows

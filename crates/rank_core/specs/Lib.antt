@@ -9,5 +9,4 @@ pub mod Sending
 pub mod Standing
 pub mod Reading
 pub mod Seats
-pub mod Samples
 pub mod Laws

@@ -11,8 +11,6 @@ mod rank_cells;
 mod reading;
 mod request;
 mod state;
-#[cfg(test)]
-mod tests;
 mod walking;
 
 pub use laws::{rank_stays_true, results_rest_on_letters, seat_tells_finished};

@@ -12,6 +12,3 @@ pub use gather::{Effort, Found};
 pub use place::place_by_row;
 pub use sharing::Sharing;
 pub use walk::walk_over_ranks;
-
-#[cfg(test)]
-mod tests;

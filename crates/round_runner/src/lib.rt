@@ -12,8 +12,6 @@ mod log;
 mod meet_gate;
 mod mem_wire;
 mod starve_wire;
-#[cfg(test)]
-mod tests;
 mod wire;
 
 pub use draw::{drawn, next_state};

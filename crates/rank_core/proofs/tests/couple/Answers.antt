@@ -1,8 +1,0 @@
-use Rattle.rank_core.specs.Samples.{two}
-use Rattle.rank_core.proofs.tests.couple.Goals as goal
-
-pub advance-requires-clause-fits : goal.advance-requires-clause-fits
-advance-requires-clause-fits g c κs within = (two, c.answer.ensures.left_stands)
-
-pub advance-requires-2-clause-fits : goal.advance-requires-2-clause-fits
-advance-requires-2-clause-fits g c κs within = (two, c.answer.ensures.right_stands)

@@ -1,0 +1,4 @@
+mod Worlds
+mod Handing
+mod Rows
+mod Couples
