@@ -8,8 +8,6 @@ mod limits;
 mod read;
 mod reader;
 mod rows;
-#[cfg(test)]
-mod tests;
 
 pub use fault::{BodyFault, FileFault, ReadError};
 pub use laws::files_have_verdicts;

@@ -7,8 +7,6 @@ mod laws;
 mod ordered;
 mod row;
 mod set;
-#[cfg(test)]
-mod tests;
 
 pub use fault::PushError;
 pub use laws::rows_add_up;

@@ -9,8 +9,6 @@ mod numbers;
 mod places;
 mod settings;
 mod table;
-#[cfg(test)]
-mod tests;
 mod texts;
 mod word_list;
 mod words;

@@ -8,8 +8,6 @@ mod many;
 mod refused;
 mod state;
 mod step;
-#[cfg(test)]
-mod tests;
 mod velocity;
 
 pub use laws::steps_undo;

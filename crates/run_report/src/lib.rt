@@ -6,8 +6,6 @@ mod cells;
 mod laws;
 mod report;
 mod sample;
-#[cfg(test)]
-mod tests;
 mod text;
 
 pub use laws::numbers_are_counts;

@@ -23,6 +23,3 @@ pub use kind::Whole;
 pub use layout::{Col, HeaderError, Layout, Order};
 pub use pieces::read_pieces;
 pub use reader::{Fed, HeaderReader};
-
-#[cfg(test)]
-mod tests;

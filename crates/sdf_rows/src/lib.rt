@@ -8,6 +8,3 @@ mod reader;
 
 pub use raw_row::{RawRow, RowFault, RowStep};
 pub use reader::Rows;
-
-#[cfg(test)]
-mod tests;

@@ -7,8 +7,6 @@ mod laws;
 mod lists;
 mod share;
 mod table;
-#[cfg(test)]
-mod tests;
 mod text;
 mod tops;
 

@@ -4,8 +4,6 @@
 
 mod laws;
 mod range;
-#[cfg(test)]
-mod tests;
 mod text;
 
 pub use laws::{files_have_states, files_undo, state_header_reads, states_read_back};

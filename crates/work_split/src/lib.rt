@@ -5,8 +5,6 @@
 mod laws;
 mod pieces;
 mod shares;
-#[cfg(test)]
-mod tests;
 mod weights;
 
 pub use laws::{pieces_join, pieces_make_a_world};
