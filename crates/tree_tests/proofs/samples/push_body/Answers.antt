@@ -8,7 +8,7 @@ use Rattle.tree_tests.proofs.samples.push_body.Goals as goal
 
 pub returns : goal.returns
 returns g c =
-    let xs = c.args.bodies.old.items in
+    let xs = c.args.bodies.now.items in
     let b : BodyValue = c.expect-body.result in
     let few : length xs < 262144 = search rules in
     let row : b.row ≡ length xs = search rules in

@@ -7,7 +7,7 @@ use Rattle.tree_tests.proofs.UnderWay.{first-answered, last-given}
 use Rattle.tree_tests.proofs.walks.supply_next.Goals as goal
 
 pub supply-requires-clause-given : goal.supply-requires-clause-given
-supply-requires-clause-given g c = last-given c.in-Some.ask.key _ _ c.in-Some.ensures.some.0
+supply-requires-clause-given g c κs within = last-given c.in-Some.ask.key _ _ c.in-Some.ensures.some.0
 
 pub returns : goal.returns
 returns g c =
