@@ -79,7 +79,8 @@ told_end (Faulty f) n k h = absurd cc
 told_end Open n k h = absurd cc
 told_end (Ends text len) n k h = (text, len, refl, cc)
 
-ends_len : (t u m n : ℕ) → Ends t m ≡ Ends u n → m ≡ n
+-- an end tells the header's length
+pub ends_len : (t u m n : ℕ) → Ends t m ≡ Ends u n → m ≡ n
 ends_len t u m n e = cc
 
 -- the header takes no more of a piece than there is

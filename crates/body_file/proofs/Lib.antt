@@ -6,4 +6,5 @@ pub mod Headers
 pub mod Verdicts
 pub mod Takings
 pub mod Pieces
+pub mod Fronts
 pub mod Readings

@@ -1,5 +1,6 @@
 -- How far a file was read when the reading ended.
-use Rattle.std.proofs.Common.{◌≡◌, ℕ, ◌+◌, ◌-◌, ◌≤◌, ◌<◌, Bool, true, false, List, [], ◌++◌, length, Option, Some, None, Result, Ok, Err, MatchResult, take, subst, refl, sym, ap, ◌∙◌, arith, append-nil, length-append}
+use Rattle.std.proofs.Common.{◌≡◌, ℕ, ◌+◌, ◌-◌, ◌≤◌, ◌<◌, Bool, true, false, List, [], ◌++◌, length, Option, Some, None, Result, Ok, Err, MatchResult, take, drop, subst, refl, sym, ap, ◌∙◌, arith, append-nil, length-append}
+use Rattle.std.proofs.lemmas.List.{take-append-le, take-append-drop}
 use Rattle.std.specs.Io.KnownBytes.{Consumes, IsAtEnd}
 use Rattle.hot_io.specs.Reading.{Reading, unopened, ended, taken, has_ended, has_failed, IsAll}
 use Rattle.body_file.specs.declared.fault.ReadError.{ReadError}
@@ -7,9 +8,10 @@ use Rattle.body_file.specs.declared.fault.ReadError.TheVariants.{Broken, Refused
 use Rattle.body_file.specs.declared.reader.BodyReader.{BodyReader}
 use Rattle.body_set.specs.Sets.{SetValue}
 use Rattle.body_file.specs.Faults.{decided}
-use Rattle.body_file.specs.Files.{HasBodies, ReadsBodies, IsPrompt, Stopped, read_limit, piece_bytes}
+use Rattle.body_file.specs.Files.{HasBodies, ReadsBodies, IsPrompt, Stopped, read_limit, piece_bytes, but_a_piece}
 use Rattle.body_file.specs.Reading.{HasTaken, Stops, given_to}
 use Rattle.body_file.proofs.Headers.{nothing_open, open_undecided}
+use Rattle.body_file.proofs.Fronts.{front_undecided}
 use Rattle.body_file.proofs.Takings.{undecided, in_time, given_all}
 
 -- what was taken up to the end is all
@@ -21,8 +23,16 @@ all_taken (Some all) (Some rest) (Some more) t p q e = sym (p ∙ ap (λ l. t ++
 
 -- the last read gave this piece
 pub prompt_more : (input : Reading) (reader : BodyReader) (bytes piece : List ℕ) → HasTaken reader bytes → taken input ≡ bytes ++ piece → length piece ≤ piece_bytes → IsPrompt input
-prompt_more input reader bytes piece t e few =
-    record { front = bytes; last = piece; all = e; one_read = few; undecided = undecided reader bytes t; early = in_time reader bytes t }
+prompt_more input reader bytes piece t e short =
+    let sum = length-append bytes piece in
+    let size = ap (λ (l : List ℕ). length l) e in
+    let k = length (bytes ++ piece) - piece_bytes in
+    let front : k ≤ length bytes = omega (arith, sum, short) in
+    let parts : HasTaken reader (take k bytes ++ drop k bytes) = subst (HasTaken reader) (sym (take-append-drop k bytes)) t in
+    record {
+      early = ap (λ (l : List ℕ). decided false (but_a_piece l)) e ∙ ap (decided false) (take-append-le k bytes piece front) ∙ front_undecided reader (take k bytes) (drop k bytes) parts;
+      few = omega (arith, size, sum, short, in_time reader bytes t);
+    }
 
 -- it gave nothing
 pub prompt_now : (input : Reading) (reader : BodyReader) (bytes : List ℕ) → HasTaken reader bytes → taken input ≡ bytes → IsPrompt input
@@ -34,7 +44,9 @@ nothing_undecided = open_undecided [] nothing_open
 
 -- a reading that took no byte is prompt
 pub prompt_begin : (input : Reading) → taken input ≡ [] → IsPrompt input
-prompt_begin input e = record { front = []; last = []; all = e; one_read = omega arith; undecided = nothing_undecided; early = omega arith }
+prompt_begin input e =
+    let size = ap (λ (l : List ℕ). length l) e in
+    record { early = ap (λ (l : List ℕ). decided false (but_a_piece l)) e ∙ nothing_undecided; few = omega (arith, size) }
 
 -- what stops the reader stops the reading
 pub stopped_by : (input : Reading) (bytes : List ℕ) (at_end : Bool) (e : ReadError) → has_failed input ≡ false → has_ended input ≡ at_end → taken input ≡ bytes → Stops at_end bytes e → Stopped input e

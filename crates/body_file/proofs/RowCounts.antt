@@ -50,7 +50,8 @@ within_by : (b : Bool) → (if b then Some (End Rattle.sdf_rows.specs.declared.r
 within_by true e = absurd cc
 within_by false e = refl
 
-none_beyond_now : (l : LayoutValue) (bytes : List ℕ) → rows_fault false l bytes ≡ None → is_beyond_at l.count l.width (length bytes) ≡ false
+-- bytes without a fault have none too many
+pub none_beyond_now : (l : LayoutValue) (bytes : List ℕ) → rows_fault false l bytes ≡ None → is_beyond_at l.count l.width (length bytes) ≡ false
 none_beyond_now l bytes e = within_by (is_beyond_at l.count l.width (length bytes)) (none_too_many l bytes e)
 
 full_length : (count : Option ℕ) (w len : ℕ) → is_full_at count w len ≡ true → is_beyond_at count w len ≡ false → at_most count (len / w) * w ≡ len

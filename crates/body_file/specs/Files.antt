@@ -1,5 +1,5 @@
 -- What a body file holds, and how far one is read.
-use Rattle.std.specs.Prelude.{◌≡◌, ℕ, ◌+◌, ◌*◌, ◌<◌, ◌≤◌, true, false, List, ◌++◌, length, drop, None, Ok}
+use Rattle.std.specs.Prelude.{◌≡◌, ℕ, ◌+◌, ◌*◌, ◌-◌, ◌<◌, true, false, List, length, take, drop, None, Ok}
 use Rattle.hot_model.specs.Limits.{max_header_bytes, max_bodies, max_row_bytes}
 use Rattle.hot_io.specs.Reading.{Reading, taken, ended, has_ended, has_failed}
 use Rattle.sdf_header.specs.Layouts.{LayoutValue}
@@ -25,14 +25,14 @@ piece_bytes = 4096
 abbrev pub read_limit : ℕ
 read_limit = max_header_bytes + (max_bodies + 1) * max_row_bytes
 
--- All but one piece at most of the bytes taken decide no fault, and they are fewer than the limit.
+-- bytes without the last piece of them, and none where they are fewer
+abbrev pub but_a_piece : List ℕ → List ℕ
+but_a_piece bytes = take (length bytes - piece_bytes) bytes
+
+-- the bytes taken, without the last piece of them, decide no fault, and they are fewer than the limit and a piece
 pub record IsPrompt (input : Reading) : Type 0 where
-  pub front : List ℕ
-  pub last : List ℕ
-  pub all : taken input ≡ front ++ last
-  pub one_read : length last ≤ piece_bytes
-  pub undecided : decided false front ≡ None
-  pub early : length front < read_limit
+  pub early : decided false (but_a_piece (taken input)) ≡ None
+  pub few : length (taken input) < read_limit + piece_bytes
 
 -- the bodies were read to the end of the file
 pub record ReadsBodies (input : Reading) (set : SetValue) : Type 0 where
