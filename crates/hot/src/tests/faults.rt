@@ -1,5 +1,5 @@
-// Sources that stop, and sinks that are full.
-use super::{AMPLE, BROKEN, Limits, MASSES, PAIR, PLACES, PULLS, WORDS, call, check, plain_file};
+// Sources that stop behind a fault, or before it.
+use super::{AMPLE, BROKEN, Case, Limits, MASSES, PLACES, WORDS, check_calls, plain_file};
 use crate::Status;
 use std::test::Fail;
 
@@ -13,71 +13,78 @@ fn a_source_that_stops(rt: HostRuntime) -> Result<(), Fail> {
     heavy[27] = 0;
     let faulty = plain_file(alloc, MASSES, b"10", &heavy)?;
     assert_eq!(rt; faulty.len(), 269);
-    for (input, stop, status, err) in [
+    let float = plain_file(alloc, b"float x;\nint32_t y, z;", b"0", &[])?;
+    assert_eq!(rt; float.len(), 108);
+    let cases: [Case<'_>; 8] = [
         // in the middle of row 7
-        (whole.as_slice(), 193, Status::ReadFault, BROKEN),
-        (whole.as_slice(), 223, Status::ReadFault, BROKEN),
-        (whole.as_slice(), 0, Status::ReadFault, BROKEN),
-        // row 6 has no mass, and the source stops behind it, or within it
         (
-            faulty.as_slice(),
-            221,
-            Status::Input,
-            b"hot: B4 row 6 mass out of range\n".as_slice(),
-        ),
-        (faulty.as_slice(), 220, Status::ReadFault, BROKEN),
-        // a header without a struct, and a source that stops behind it, or before its last byte
-        (
-            b"# SDF\n# SDF-EOH\nmore".as_slice(),
-            16,
-            Status::Input,
-            b"hot: H8 no struct\n".as_slice(),
-        ),
-        (
-            b"# SDF\n# SDF-EOH\nmore".as_slice(),
-            15,
+            WORDS,
+            &whole,
+            Limits { stop: 193, ..AMPLE },
             Status::ReadFault,
+            b"",
             BROKEN,
         ),
-    ] {
-        let ended = call(&rt, alloc, WORDS, input, Limits { stop, ..AMPLE })?;
-        check(&rt, &ended, status, b"", err);
-    }
-    Ok(())
-}
-
-#[test]
-fn sinks_that_fail(rt: HostRuntime) -> Result<(), Fail> {
-    let alloc = rt.alloc();
-    let input = plain_file(alloc, MASSES, b"2", &PAIR)?;
-    for (stop, room, err_room, status, out, err) in [
-        (70, 9999, 5, Status::WriteFault, 0, b"hot: ".as_slice()),
         (
-            9999,
-            0,
-            9999,
-            Status::WriteFault,
-            0,
-            b"hot: write fault\n".as_slice(),
+            WORDS,
+            &whole,
+            Limits { stop: 223, ..AMPLE },
+            Status::ReadFault,
+            b"",
+            BROKEN,
         ),
         (
-            9999,
-            26,
-            9999,
-            Status::WriteFault,
-            26,
-            b"hot: write fault\n".as_slice(),
+            WORDS,
+            &whole,
+            Limits { stop: 0, ..AMPLE },
+            Status::ReadFault,
+            b"",
+            BROKEN,
         ),
-        (9999, 26, 0, Status::WriteFault, 26, b"".as_slice()),
-        (9999, 9999, 0, Status::Done, PULLS.len(), b"".as_slice()),
-    ] {
-        let limits = Limits {
-            stop,
-            room,
-            err_room,
-        };
-        let ended = call(&rt, alloc, WORDS, &input, limits)?;
-        check(&rt, &ended, status, &PULLS[..out], err);
-    }
+        // row 6 has no mass, and the source stops behind it, or within it
+        (
+            WORDS,
+            &faulty,
+            Limits { stop: 221, ..AMPLE },
+            Status::Input,
+            b"",
+            b"hot: B4 row 6 mass out of range\n",
+        ),
+        (
+            WORDS,
+            &faulty,
+            Limits { stop: 220, ..AMPLE },
+            Status::ReadFault,
+            b"",
+            BROKEN,
+        ),
+        // a column that is not whole, and a source that stops behind the header
+        (
+            WORDS,
+            &float,
+            Limits { stop: 108, ..AMPLE },
+            Status::Input,
+            b"",
+            b"hot: H11 column x is not whole\n",
+        ),
+        // a header without a struct, and a source that stops behind it, or before its last byte
+        (
+            WORDS,
+            b"# SDF\n# SDF-EOH\nmore",
+            Limits { stop: 16, ..AMPLE },
+            Status::Input,
+            b"",
+            b"hot: H8 no struct\n",
+        ),
+        (
+            WORDS,
+            b"# SDF\n# SDF-EOH\nmore",
+            Limits { stop: 15, ..AMPLE },
+            Status::ReadFault,
+            b"",
+            BROKEN,
+        ),
+    ];
+    check_calls(&rt, alloc, &cases)?;
     Ok(())
 }

@@ -1,10 +1,12 @@
 // Forces of files.
+ghost use Rattle.std.specs.Prelude.{◌≡◌, None, IfOk};
+
 use super::{
-    AMPLE, BROKEN, Ended, MASSES, PAIR, PLACES, PULLS, WHOLE, WORDS, call, check, file,
-    least_first, list, most_first, plain_file,
+    AMPLE, BROKEN, Ended, FileCase, MASSES, PAIR, PLACES, PULLS, WHOLE, WORDS, call, call_with,
+    check, check_files, file, joined, least_first, most_first, plain_file,
 };
-use crate::{Status, hot_main};
-use hot_io::{MemSink, MemSource};
+use crate::Status;
+use hot_io::MemSource;
 use round_runner::{MemWire, OpenGate};
 use std::alloc::{AllocError, Global};
 use std::test::Fail;
@@ -20,91 +22,110 @@ fn forces_of_files(rt: HostRuntime) -> Result<(), Fail> {
         0, 0, 0, 1, 1_048_576, 0, 0, 4_194_304, 1_048_576, 0, 0, 4_194_304,
     ];
     let near = [0, 0, 0, 1, 2, 0, 0, 4_194_304, 3, 0, 0, 4_194_304];
-    for (words, columns, count, numbers, lines) in [
+    let cases: [FileCase<'_>; 13] = [
         (
             "forces --eps 1 --leaf 1 --theta 1/1 --moments 2",
             MASSES,
-            b"3".as_slice(),
-            near.as_slice(),
-            b"# hot forces 1\n0 25220089743732 0 0\n1 70367397827599 0 0\n2 -70367403886018 0 0\n# end 3\n".as_slice(),
+            b"3",
+            &near,
+            Status::Done,
+            b"# hot forces 1\n0 25220089743732 0 0\n1 70367397827599 0 0\n2 -70367403886018 0 0\n# end 3\n",
+            b"",
         ),
         (
             "forces --eps 1 --leaf 1 --theta 1/1 --moments 1",
             MASSES,
-            b"3".as_slice(),
-            near.as_slice(),
-            b"# hot forces 1\n0 22517943161405 0 0\n1 70367397827599 0 0\n2 -70367403886018 0 0\n# end 3\n".as_slice(),
+            b"3",
+            &near,
+            Status::Done,
+            b"# hot forces 1\n0 22517943161405 0 0\n1 70367397827599 0 0\n2 -70367403886018 0 0\n# end 3\n",
+            b"",
         ),
-        (WORDS, MASSES, b"2".as_slice(), PAIR.as_slice(), PULLS),
-        (WORDS, MASSES, b"".as_slice(), PAIR.as_slice(), PULLS),
+        (WORDS, MASSES, b"2", &PAIR, Status::Done, PULLS, b""),
+        (WORDS, MASSES, b"", &PAIR, Status::Done, PULLS, b""),
         (
             WORDS,
             PLACES,
-            b"0".as_slice(),
-            [].as_slice(),
-            b"# hot forces 1\n# end 0\n".as_slice(),
-        ),
-        (
-            WORDS,
-            PLACES,
-            b"1".as_slice(),
-            [7, 8, 9].as_slice(),
-            b"# hot forces 1\n0 0 0 0\n# end 1\n".as_slice(),
+            b"0",
+            &[],
+            Status::Done,
+            b"# hot forces 1\n# end 0\n",
+            b"",
         ),
         (
             WORDS,
             PLACES,
-            b"1".as_slice(),
-            [2_097_151, 0, 0].as_slice(),
-            b"# hot forces 1\n0 0 0 0\n# end 1\n".as_slice(),
+            b"1",
+            &[7, 8, 9],
+            Status::Done,
+            b"# hot forces 1\n0 0 0 0\n# end 1\n",
+            b"",
+        ),
+        (
+            WORDS,
+            PLACES,
+            b"1",
+            &[2_097_151, 0, 0],
+            Status::Done,
+            b"# hot forces 1\n0 0 0 0\n# end 1\n",
+            b"",
         ),
         (
             WORDS,
             MASSES,
-            b"1".as_slice(),
-            [0, 0, 0, 4_194_304].as_slice(),
-            b"# hot forces 1\n0 0 0 0\n# end 1\n".as_slice(),
+            b"1",
+            &[0, 0, 0, 4_194_304],
+            Status::Done,
+            b"# hot forces 1\n0 0 0 0\n# end 1\n",
+            b"",
         ),
         (
             "forces --eps 1",
             PLACES,
-            b"2".as_slice(),
-            [0, 0, 0, 1, 2, 2].as_slice(),
-            b"# hot forces 1\n0 621377 1242754 1242754\n1 -621377 -1242754 -1242754\n# end 2\n".as_slice(),
+            b"2",
+            &[0, 0, 0, 1, 2, 2],
+            Status::Done,
+            b"# hot forces 1\n0 621377 1242754 1242754\n1 -621377 -1242754 -1242754\n# end 2\n",
+            b"",
         ),
         (
             "forces",
             PLACES,
-            b"3".as_slice(),
-            [0, 0, 0, 1, 0, 0, 2, 0, 0].as_slice(),
-            b"# hot forces 1\n0 8932854 0 0\n1 0 0 0\n2 -8932854 0 0\n# end 3\n".as_slice(),
+            b"3",
+            &[0, 0, 0, 1, 0, 0, 2, 0, 0],
+            Status::Done,
+            b"# hot forces 1\n0 8932854 0 0\n1 0 0 0\n2 -8932854 0 0\n# end 3\n",
+            b"",
         ),
         (
             "forces --eps 1 --leaf 1 --theta 1/1",
             MASSES,
-            b"3".as_slice(),
-            far.as_slice(),
-            b"# hot forces 1\n0 127 0 0\n1 70367402021887 0 0\n2 -70367402021887 0 0\n# end 3\n".as_slice(),
+            b"3",
+            &far,
+            Status::Done,
+            b"# hot forces 1\n0 127 0 0\n1 70367402021887 0 0\n2 -70367402021887 0 0\n# end 3\n",
+            b"",
         ),
         (
             "forces --leaf 1 --theta 0/1 --eps 1",
             MASSES,
-            b"3".as_slice(),
-            far.as_slice(),
-            b"# hot forces 1\n0 126 0 0\n1 70367402021887 0 0\n2 -70367402021887 0 0\n# end 3\n".as_slice(),
+            b"3",
+            &far,
+            Status::Done,
+            b"# hot forces 1\n0 126 0 0\n1 70367402021887 0 0\n2 -70367402021887 0 0\n# end 3\n",
+            b"",
         ),
         (
             "forces --eps 1 --leaf 1 --theta 1/1",
             MASSES,
-            b"3".as_slice(),
-            twins.as_slice(),
-            b"# hot forces 1\n0 127 0 0\n1 0 0 0\n2 0 0 0\n# end 3\n".as_slice(),
+            b"3",
+            &twins,
+            Status::Done,
+            b"# hot forces 1\n0 127 0 0\n1 0 0 0\n2 0 0 0\n# end 3\n",
+            b"",
         ),
-    ] {
-        let input = plain_file(alloc, columns, count, numbers)?;
-        let ended = call(&rt, alloc, words, &input, AMPLE)?;
-        check(&rt, &ended, Status::Done, lines, b"");
-    }
+    ];
+    check_files(&rt, alloc, &cases)?;
     Ok(())
 }
 
@@ -153,8 +174,8 @@ fn a_converted_file(rt: HostRuntime) -> Result<(), Fail> {
                 filler,
             ],
         )?;
-        let mut input = Vec::from_slice(alloc, CONVERTED)?;
-        input.extend_from_slice(&rows)?;
+        let pieces: [&[u8]; 2] = [CONVERTED, &rows];
+        let input = joined(alloc, &pieces)?;
         let ended = call(&rt, alloc, "forces --eps 1", &input, AMPLE)?;
         let lines = b"# hot forces 1\n900 2097150 0 0\n17 -2097150 0 0\n# end 2\n";
         check(&rt, &ended, Status::Done, lines, b"");
@@ -162,62 +183,49 @@ fn a_converted_file(rt: HostRuntime) -> Result<(), Fail> {
     Ok(())
 }
 
-/// A call on three named files, two of which were added under one name.
-fn named<R: Threads + Sync>(rt: &R, alloc: Global, words: &str) -> Result<Ended, AllocError> {
-    let list = list(alloc, words)?;
+/// Three named files, two of which were added under one name.
+fn named_files(alloc: Global) -> Result<MemSource, AllocError>
+    ensures fresh { IfOk result (λ s. (s.faults ≡ 0) × (s.opens ≡ 0) × (s.left ≡ None)) }
+{
+    let pair = plain_file(alloc, MASSES, b"2", &PAIR)?;
     let mut source = MemSource::new(alloc, 7)?;
     source.add("-", b"")?;
     source.add("bodies", b"# SDF")?;
-    source.add("bodies", &plain_file(alloc, MASSES, b"2", &PAIR)?)?;
+    source.add("bodies", &pair)?;
     source.add("other", b"# SDF")?;
-    let mut out = MemSink::new(alloc, 5, 9999)?;
-    let mut err = MemSink::new(alloc, 5, 9999)?;
+    Ok(source)
+}
+
+/// A call on them.
+fn named<R: Threads + Sync>(rt: &R, alloc: Global, words: &str) -> Result<Ended, AllocError> {
+    let mut source = named_files(alloc)?;
     let mut wire = MemWire::new(alloc)?;
-    let status = hot_main(
-        rt,
-        alloc,
-        &list,
-        &mut source,
-        &mut out,
-        &mut err,
-        &mut wire,
-        &OpenGate,
-    );
-    Ok(Ended { status, out, err })
+    call_with(rt, alloc, words, &mut source, AMPLE, &mut wire, &OpenGate)
 }
 
 #[test]
 fn the_file_that_the_words_name(rt: HostRuntime) -> Result<(), Fail> {
     let alloc = rt.alloc();
-    for (words, status, out, err) in [
-        ("forces --eps 1 bodies", Status::Done, PULLS, b"".as_slice()),
+    let cases: [(&str, Status, &[u8], &[u8]); 7] = [
+        ("forces --eps 1 bodies", Status::Done, PULLS, b""),
         (
             "forces --mail prompt --ranks 01 --form text --eps 1 bodies",
             Status::Done,
             PULLS,
-            b"".as_slice(),
+            b"",
         ),
-        ("split bodies", Status::Done, WHOLE, b"".as_slice()),
+        ("split bodies", Status::Done, WHOLE, b""),
         (
             "forces other",
             Status::Input,
-            b"".as_slice(),
-            b"hot: H3 header has no end\n".as_slice(),
+            b"",
+            b"hot: H3 header has no end\n",
         ),
-        (
-            "forces",
-            Status::Input,
-            b"".as_slice(),
-            b"hot: H1 not an SDF file\n".as_slice(),
-        ),
-        (
-            "forces -",
-            Status::Input,
-            b"".as_slice(),
-            b"hot: H1 not an SDF file\n".as_slice(),
-        ),
-        ("forces nowhere", Status::ReadFault, b"".as_slice(), BROKEN),
-    ] {
+        ("forces", Status::Input, b"", b"hot: H1 not an SDF file\n"),
+        ("forces -", Status::Input, b"", b"hot: H1 not an SDF file\n"),
+        ("forces nowhere", Status::ReadFault, b"", BROKEN),
+    ];
+    for (words, status, out, err) in cases {
         let ended = named(&rt, alloc, words)?;
         check(&rt, &ended, status, out, err);
     }

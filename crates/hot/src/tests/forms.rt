@@ -1,5 +1,8 @@
 // Forces as SDF.
-use super::{AMPLE, Limits, MASSES, PAIR, PLACES, call, check, plain_file};
+use super::{
+    AMPLE, CUT, Case, FileCase, Limits, MASSES, PAIR, PLACES, check_calls, check_files, joined,
+    plain_file,
+};
 use crate::Status;
 use std::alloc::{AllocError, Global};
 use std::test::Fail;
@@ -20,9 +23,8 @@ const PULL_ROWS: [Columns; 2] = [
 /// A file of forces. A low half that is not below 2^63 stands here as the signed number with its
 /// bits.
 fn forces_file(alloc: Global, count: &[u8], rows: &[Columns]) -> Result<Vec<u8>, AllocError> {
-    let mut bytes = Vec::from_slice(alloc, FRONT)?;
-    bytes.extend_from_slice(count)?;
-    bytes.extend_from_slice(b"];\n# SDF-EOH\n")?;
+    let front: [&[u8]; 3] = [FRONT, count, b"];\n# SDF-EOH\n"];
+    let mut bytes = joined(alloc, &front)?;
     for row in rows {
         for column in row {
             bytes.extend_from_slice(&column.to_le_bytes())?;
@@ -36,33 +38,36 @@ fn forces_as_sdf(rt: HostRuntime) -> Result<(), Fail> {
     let alloc = rt.alloc();
     let pulls = forces_file(alloc, b"2", &PULL_ROWS)?;
     let none = forces_file(alloc, b"0", &[])?;
-    for (words, columns, count, numbers, file) in [
+    let cases: [FileCase<'_>; 3] = [
         (
             "forces --eps 1 --theta 0/1 --form sdf",
             MASSES,
-            b"2".as_slice(),
-            PAIR.as_slice(),
-            pulls.as_slice(),
+            b"2",
+            &PAIR,
+            Status::Done,
+            &pulls,
+            b"",
         ),
         (
             "forces --form sdf --ranks 2 --eps 1 --mail last -",
             MASSES,
-            b"".as_slice(),
-            PAIR.as_slice(),
-            pulls.as_slice(),
+            b"",
+            &PAIR,
+            Status::Done,
+            &pulls,
+            b"",
         ),
         (
             "forces --form sdf",
             PLACES,
-            b"0".as_slice(),
-            [].as_slice(),
-            none.as_slice(),
+            b"0",
+            &[],
+            Status::Done,
+            &none,
+            b"",
         ),
-    ] {
-        let input = plain_file(alloc, columns, count, numbers)?;
-        let ended = call(&rt, alloc, words, &input, AMPLE)?;
-        check(&rt, &ended, Status::Done, file, b"");
-    }
+    ];
+    check_files(&rt, alloc, &cases)?;
     Ok(())
 }
 
@@ -71,22 +76,18 @@ fn forces_as_sdf(rt: HostRuntime) -> Result<(), Fail> {
 fn a_report_behind_sdf(rt: HostRuntime) -> Result<(), Fail> {
     let alloc = rt.alloc();
     let input = plain_file(alloc, MASSES, b"2", &PAIR)?;
-    let mut pulls = forces_file(alloc, b"2", &PULL_ROWS)?;
+    let pulls = forces_file(alloc, b"2", &PULL_ROWS)?;
     let words = "forces --eps 1 --report --form sdf";
     let told =
         b"# hot report 1\nrank 0 bodies 2 opened 2 asks 0\nbranch 1 rank 0\nletters 0 rounds 1 cells 1 bound 1\n# end report\n";
-    let ended = call(&rt, alloc, words, &input, AMPLE)?;
-    check(&rt, &ended, Status::Done, &pulls, told);
     assert_eq!(rt; pulls.len(), 339);
+    let mut front = forces_file(alloc, b"2", &PULL_ROWS)?;
+    front.truncate(300);
     let full = Limits { room: 300, ..AMPLE };
-    let ended = call(&rt, alloc, words, &input, full)?;
-    pulls.truncate(300);
-    check(
-        &rt,
-        &ended,
-        Status::WriteFault,
-        &pulls,
-        b"hot: write fault\n",
-    );
+    let cases: [Case<'_>; 2] = [
+        (words, &input, AMPLE, Status::Done, &pulls, told),
+        (words, &input, full, Status::WriteFault, &front, CUT),
+    ];
+    check_calls(&rt, alloc, &cases)?;
     Ok(())
 }

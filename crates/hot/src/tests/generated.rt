@@ -1,10 +1,13 @@
 // Generated bodies: as a file, and in a run.
-use super::{AMPLE, Limits, call, check};
+use super::{AMPLE, CUT, Case, Limits, call, check, check_calls};
 use crate::Status;
 use std::alloc::Global;
 use std::process::Abort;
 use std::test::Fail;
 use std::thread::Threads;
+
+/// No file is read: the source would fail at its first byte.
+const CLOSED: Limits = Limits { stop: 0, ..AMPLE };
 
 /// The file of one body by the seed 0.
 const ONE_BODY: &[u8] =
@@ -14,26 +17,41 @@ const ONE_BODY: &[u8] =
 fn files_and_lines(rt: HostRuntime) -> Result<(), Fail> {
     let alloc = rt.alloc();
     assert_eq!(rt; ONE_BODY.len(), 104 + 12);
-    for (words, text) in [
-        ("make --bodies 1 --seed 0", ONE_BODY),
+    let cases: [Case<'_>; 4] = [
+        (
+            "make --bodies 1 --seed 0",
+            b"not read",
+            CLOSED,
+            Status::Done,
+            ONE_BODY,
+            b"",
+        ),
         (
             "make --bodies 0",
-            b"# SDF\nparameter byteorder = 0x78563412;\nint cube_bits = 21;\nstruct {\n  int32_t x, y, z;\n}[0];\n# SDF-EOH\n".as_slice(),
+            b"not read",
+            CLOSED,
+            Status::Done,
+            b"# SDF\nparameter byteorder = 0x78563412;\nint cube_bits = 21;\nstruct {\n  int32_t x, y, z;\n}[0];\n# SDF-EOH\n",
+            b"",
         ),
         (
             "sample --bodies 1 --seed 0",
-            b"sample bodies 1 seed 0 ranks 1 opened 1 asks 0 cells 1 letters 0 rounds 1 sum 0 0 0\n".as_slice(),
+            b"not read",
+            CLOSED,
+            Status::Done,
+            b"sample bodies 1 seed 0 ranks 1 opened 1 asks 0 cells 1 letters 0 rounds 1 sum 0 0 0\n",
+            b"",
         ),
         (
             "sample --bodies 0 --seed 0",
-            b"sample bodies 0 seed 0 ranks 1 opened 0 asks 0 cells 0 letters 0 rounds 1 sum 0 0 0\n".as_slice(),
+            b"not read",
+            CLOSED,
+            Status::Done,
+            b"sample bodies 0 seed 0 ranks 1 opened 0 asks 0 cells 0 letters 0 rounds 1 sum 0 0 0\n",
+            b"",
         ),
-    ] {
-        // no file is read: the source would fail at its first byte
-        let closed = Limits { stop: 0, ..AMPLE };
-        let ended = call(&rt, alloc, words, b"not read", closed)?;
-        check(&rt, &ended, Status::Done, text, b"");
-    }
+    ];
+    check_calls(&rt, alloc, &cases)?;
     Ok(())
 }
 
@@ -46,8 +64,7 @@ fn a_file_that_is_cut(rt: HostRuntime) -> Result<(), Fail> {
             ..AMPLE
         };
         let ended = call(&rt, alloc, "make --bodies 1 --seed 0", b"", limits)?;
-        let line = b"hot: write fault\n";
-        check(&rt, &ended, Status::WriteFault, &ONE_BODY[..room], line);
+        check(&rt, &ended, Status::WriteFault, &ONE_BODY[..room], CUT);
     }
     Ok(())
 }

@@ -1,5 +1,8 @@
 // Runs over ranks, and their reports.
-use super::{AMPLE, Limits, MASSES, PAIR, PLACES, PULLS, call, call_at, check, plain_file};
+use super::{
+    AMPLE, CUT, Case, FileCase, Limits, MASSES, PAIR, PLACES, PULLS, call, call_at, check,
+    check_calls, check_files, plain_file,
+};
 use crate::Status;
 use round_runner::MeetGate;
 use std::alloc::{AllocError, Global};
@@ -9,7 +12,7 @@ use std::test::Fail;
 pub(super) const TWO_RANKS: &str = "forces --eps 1 --theta 0/1 --ranks 2";
 
 /// What is told of the two bodies on two ranks.
-const PAIR_REPORT: &[u8] =
+pub(super) const PAIR_REPORT: &[u8] =
     b"# hot report 1\nrank 0 bodies 1 opened 1 asks 1\nrank 1 bodies 1 opened 1 asks 1\nbranch 144115188075855872 rank 0\nbranch 144115188075855876 rank 1\nletters 6 rounds 4 cells 3 bound 9\n# end report\n";
 
 /// The same where one letter is taken in each round.
@@ -46,65 +49,68 @@ fn reports(rt: HostRuntime) -> Result<(), Fail> {
         0, 0, 0, 1, 1_048_576, 0, 0, 4_194_304, 1_048_576, 0, 0, 4_194_304,
     ];
     let point = [5; 15];
-    for (words, columns, count, numbers, lines, told) in [
+    let cases: [FileCase<'_>; 6] = [
         (
             "forces --eps 1 --theta 0/1 --ranks 2 --report",
             MASSES,
-            b"2".as_slice(),
-            PAIR.as_slice(),
+            b"2",
+            &PAIR,
+            Status::Done,
             PULLS,
             PAIR_REPORT,
         ),
         (
             "forces --eps 1 --theta 0/1 --report --ranks 2 --mail last",
             MASSES,
-            b"2".as_slice(),
-            PAIR.as_slice(),
+            b"2",
+            &PAIR,
+            Status::Done,
             PULLS,
             PAIR_REPORT,
         ),
         (
             "forces --eps 1 --theta 0/1 --ranks 2 --mail single --report",
             MASSES,
-            b"2".as_slice(),
-            PAIR.as_slice(),
+            b"2",
+            &PAIR,
+            Status::Done,
             PULLS,
             SINGLE_REPORT,
         ),
         (
             "forces --eps 1 --leaf 1 --theta 1/1 --report",
             MASSES,
-            b"3".as_slice(),
-            twins.as_slice(),
-            b"# hot forces 1\n0 127 0 0\n1 0 0 0\n2 0 0 0\n# end 3\n".as_slice(),
-            b"# hot report 1\nrank 0 bodies 3 opened 49 asks 0\nbranch 1 rank 0\nletters 0 rounds 1 cells 23 bound 1\n# end report\n".as_slice(),
+            b"3",
+            &twins,
+            Status::Done,
+            b"# hot forces 1\n0 127 0 0\n1 0 0 0\n2 0 0 0\n# end 3\n",
+            b"# hot report 1\nrank 0 bodies 3 opened 49 asks 0\nbranch 1 rank 0\nletters 0 rounds 1 cells 23 bound 1\n# end report\n",
         ),
         (
             "forces --ranks 3 --report",
             PLACES,
-            b"5".as_slice(),
-            point.as_slice(),
-            b"# hot forces 1\n0 0 0 0\n1 0 0 0\n2 0 0 0\n3 0 0 0\n4 0 0 0\n# end 5\n".as_slice(),
-            b"# hot report 1\nrank 0 bodies 5 opened 5 asks 0\nrank 1 bodies 0 opened 0 asks 0\nrank 2 bodies 0 opened 0 asks 0\nbranch 1 rank 0\nletters 6 rounds 2 cells 1 bound 11\n# end report\n".as_slice(),
+            b"5",
+            &point,
+            Status::Done,
+            b"# hot forces 1\n0 0 0 0\n1 0 0 0\n2 0 0 0\n3 0 0 0\n4 0 0 0\n# end 5\n",
+            b"# hot report 1\nrank 0 bodies 5 opened 5 asks 0\nrank 1 bodies 0 opened 0 asks 0\nrank 2 bodies 0 opened 0 asks 0\nbranch 1 rank 0\nletters 6 rounds 2 cells 1 bound 11\n# end report\n",
         ),
         // no bodies
         (
             "forces --ranks 2 --report",
             PLACES,
-            b"0".as_slice(),
-            [].as_slice(),
-            b"# hot forces 1\n# end 0\n".as_slice(),
-            b"# hot report 1\nrank 0 bodies 0 opened 0 asks 0\nrank 1 bodies 0 opened 0 asks 0\nletters 2 rounds 2 cells 0 bound 3\n# end report\n".as_slice(),
+            b"0",
+            &[],
+            Status::Done,
+            b"# hot forces 1\n# end 0\n",
+            b"# hot report 1\nrank 0 bodies 0 opened 0 asks 0\nrank 1 bodies 0 opened 0 asks 0\nletters 2 rounds 2 cells 0 bound 3\n# end report\n",
         ),
-    ] {
-        let input = plain_file(alloc, columns, count, numbers)?;
-        let ended = call(&rt, alloc, words, &input, AMPLE)?;
-        check(&rt, &ended, Status::Done, lines, told);
-    }
+    ];
+    check_files(&rt, alloc, &cases)?;
     Ok(())
 }
 
-/// The lines of ranks without bodies, from one rank up to another.
+/// Adds the lines of ranks without bodies, from one rank up to another.
 fn add_idle_ranks(alloc: Global, text: &mut Vec<u8>, from: u32, to: u32) -> Result<(), AllocError> {
     for rank in from..to {
         let line = format!(in alloc; "rank {rank} bodies 0 opened 0 asks 0\n")?;
@@ -116,18 +122,23 @@ fn add_idle_ranks(alloc: Global, text: &mut Vec<u8>, from: u32, to: u32) -> Resu
 /// What is told of the three bodies on 64 ranks. Each is alone on its rank, opens the root, which
 /// is a leaf, and asks for the branches of the two others.
 fn row_report(alloc: Global) -> Result<Vec<u8>, AllocError> {
-    let mut text = Vec::from_slice(alloc, b"# hot report 1\nrank 0 bodies 1 opened 1 asks 2\n")?;
-    add_idle_ranks(alloc, &mut text, 1, 21)?;
-    text.extend_from_slice(b"rank 21 bodies 1 opened 1 asks 2\n")?;
-    add_idle_ranks(alloc, &mut text, 22, 42)?;
-    text.extend_from_slice(b"rank 42 bodies 1 opened 1 asks 2\n")?;
-    add_idle_ranks(alloc, &mut text, 43, 64)?;
-    text.extend_from_slice(b"branch 1152921504606846980 rank 42\n")?;
-    text.extend_from_slice(b"branch 9223372036854775808 rank 0\n")?;
-    text.extend_from_slice(b"branch 9223372036854775812 rank 21\n")?;
-    text.extend_from_slice(b"letters 4044 rounds 4 cells 4 bound 4537\n# end report\n")?;
+    let ranks: [(&[u8], u32, u32); 3] = [
+        (b"# hot report 1\nrank 0 bodies 1 opened 1 asks 2\n", 1, 21),
+        (b"rank 21 bodies 1 opened 1 asks 2\n", 22, 42),
+        (b"rank 42 bodies 1 opened 1 asks 2\n", 43, 64),
+    ];
+    let mut text = Vec::new(alloc);
+    for (line, from, to) in ranks {
+        text.extend_from_slice(line)?;
+        add_idle_ranks(alloc, &mut text, from, to)?;
+    }
+    text.extend_from_slice(ROW_BRANCHES)?;
     Ok(text)
 }
+
+/// How that report ends.
+const ROW_BRANCHES: &[u8] =
+    b"branch 1152921504606846980 rank 42\nbranch 9223372036854775808 rank 0\nbranch 9223372036854775812 rank 21\nletters 4044 rounds 4 cells 4 bound 4537\n# end report\n";
 
 #[test]
 fn as_many_ranks_as_there_may_be(rt: HostRuntime) -> Result<(), Fail> {
@@ -135,34 +146,20 @@ fn as_many_ranks_as_there_may_be(rt: HostRuntime) -> Result<(), Fail> {
     let input = plain_file(alloc, PLACES, b"3", &ROW)?;
     let told = row_report(alloc)?;
     let words = "forces --ranks 64 --report";
-    let ended = call(&rt, alloc, words, &input, AMPLE)?;
-    check(&rt, &ended, Status::Done, ROW_PULLS, &told);
-    // an output that is full is not followed by a report
     let full = Limits { room: 20, ..AMPLE };
-    let ended = call(&rt, alloc, words, &input, full)?;
-    check(
-        &rt,
-        &ended,
-        Status::WriteFault,
-        b"# hot forces 1\n0 893",
-        b"hot: write fault\n",
-    );
-    Ok(())
-}
-
-#[test]
-fn an_error_sink_that_fails_in_a_report(rt: HostRuntime) -> Result<(), Fail> {
-    let alloc = rt.alloc();
-    let input = plain_file(alloc, MASSES, b"2", &PAIR)?;
-    for room in 0..PAIR_REPORT.len() {
-        let limits = Limits {
-            err_room: room as u64,
-            ..AMPLE
-        };
-        let words = "forces --eps 1 --theta 0/1 --ranks 2 --report";
-        let ended = call(&rt, alloc, words, &input, limits)?;
-        check(&rt, &ended, Status::WriteFault, PULLS, &PAIR_REPORT[..room]);
-    }
+    let cases: [Case<'_>; 2] = [
+        (words, &input, AMPLE, Status::Done, ROW_PULLS, &told),
+        // an output that is full is not followed by a report
+        (
+            words,
+            &input,
+            full,
+            Status::WriteFault,
+            b"# hot forces 1\n0 893",
+            CUT,
+        ),
+    ];
+    check_calls(&rt, alloc, &cases)?;
     Ok(())
 }
 
