@@ -241,16 +241,26 @@ fn the_system_gives(rt: HostRuntime) -> Result<(), Fail> {
     Ok(())
 }
 
+// Whether the file has this text. It is removed.
+fn file_is(rt: &HostRuntime, name: &str, text: &str) -> Result<bool, Fail> {
+    let bytes = fs::read(rt, name)?;
+    fs::remove_file(rt, name)?;
+    Ok(bytes.as_slice() == text.as_bytes())
+}
+
 #[test]
 fn the_system_takes(rt: HostRuntime) -> Result<(), Fail> {
     let mut out = OutSink::new(File::create(&rt, "out.txt")?);
     assert!(rt; write_all(&mut out, b"forces").is_ok());
+    assert!(rt; file_is(&rt, "out.txt", "forces")?);
+    Ok(())
+}
+
+#[test]
+fn the_system_takes_errors(rt: HostRuntime) -> Result<(), Fail> {
     let mut err = ErrSink::new(File::create(&rt, "err.txt")?);
     assert!(rt; write_text(&mut err, &[b"hot: ", b"", b"write fault"]).is_ok());
-    assert!(rt; fs::read(&rt, "out.txt")?.as_slice() == b"forces".as_slice());
-    assert!(rt; fs::read(&rt, "err.txt")?.as_slice() == b"hot: write fault".as_slice());
-    fs::remove_file(&rt, "out.txt")?;
-    fs::remove_file(&rt, "err.txt")?;
+    assert!(rt; file_is(&rt, "err.txt", "hot: write fault")?);
     Ok(())
 }
 
