@@ -64,6 +64,11 @@ fn post_to(rt: &impl Abort, alloc: Global, wire: &mut MemWire, from: u32, to: u3
     }
 }
 
+/// The sender and the receiver of a letter.
+fn ranks_of(letter: Letter) -> (u32, u32) {
+    (letter.from(), letter.to())
+}
+
 /// Takes a letter if one is pending, and adds its sender; whether another one may be taken.
 fn take_one<W: Wire>(rt: &impl Abort, wire: &mut W, senders: &mut Vec<u32>) -> bool
     requires free { (W.desk wire.old).turn ≡ turns.Free }
@@ -75,10 +80,10 @@ fn take_one<W: Wire>(rt: &impl Abort, wire: &mut W, senders: &mut Vec<u32>) -> b
     ensures over { result ≡ false
         → ((W.desk wire.new).pending ≡ []) ⊎ ((W.desk wire.new).turn ≡ turns.Shut) }
 {
-    let from = match wire.take() {
-        Some(letter) => letter.from(),
-        None => return false,
+    let Some(letter) = wire.take() else {
+        return false;
     };
+    let (from, _to) = ranks_of(letter);
     senders.push(from).expect(rt, "memory");
     if wire.pending() == 0 {
         return false;
@@ -135,11 +140,6 @@ fn each_mail_gives_its_order(rt: HostRuntime) {
         let senders = senders_of(&rt, alloc, &mut wire);
         assert!(rt; senders.as_slice() == *want, "case {at}");
     }
-}
-
-/// The sender and the receiver of a letter.
-fn ranks_of(letter: Letter) -> (u32, u32) {
-    (letter.from(), letter.to())
 }
 
 /// Ends a round in which one letter is taken, and tells its sender and receiver.
