@@ -50,7 +50,11 @@ fn the_most_buckets_and_the_greatest_key(rt: HostRuntime) {
 fn has_products(rt: &impl Abort, table: &CellTable<u64>, factor: u64) {
     assert_eq!(rt; table.len(), 1_000_000);
     for i in 0..1_000_000 {
-        assert_eq!(rt; table.get(factor.wrapping_mul(i)).copied(), Some(i), "by {factor}");
+        assert_eq!(rt;
+            table.get(factor.wrapping_mul(i)).copied(),
+            Some(i),
+            "by {factor}"
+        );
     }
 }
 
