@@ -1,6 +1,6 @@
 // Files and the answers to them.
 use body_file::{BodyFault, FileFault, ReadError, read_bodies};
-use body_set::BodySet;
+use body_set::{BodySet, Ordered};
 use hot_io::MemSource;
 use hot_model::Axis;
 use sdf_header::{ColName, HeaderFault};
@@ -85,25 +85,26 @@ fn verdict_is(
 /// Row, place and mass of a body.
 type Placed = (u32, u32, u32, u32, u32);
 
-/// A file of these statements and rows has these bodies by key, with idents and weights.
+/// The bodies of a file by key, read in pieces of this size.
+fn ordered_of(rt: &impl Abort, alloc: Global, file: &[u8], piece: usize) -> Ordered {
+    let set = read(rt, alloc, "bodies", file, piece, None).expect(rt, "bodies");
+    set.order(alloc).expect(rt, "memory")
+}
+
+/// These are the bodies, with idents and weights.
 fn bodies_are(
     rt: &impl Abort,
-    alloc: Global,
-    file: &[u8],
+    ordered: &Ordered,
     bodies: &[Placed],
     idents: &[i128],
     weights: &[u32],
 ) {
-    for piece in PIECES {
-        let set = read(rt, alloc, "bodies", file, piece, None).expect(rt, "bodies");
-        let ordered = set.order(alloc).expect(rt, "memory");
-        assert_eq!(rt; ordered.bodies().len(), bodies.len());
-        for (body, want) in ordered.bodies().iter().zip(bodies.iter()) {
-            assert_eq!(rt; (body.row, body.x, body.y, body.z, body.mass), *want);
-        }
-        assert_eq!(rt; ordered.idents(), idents);
-        assert_eq!(rt; ordered.weights(), weights);
+    assert!(rt; ordered.bodies().len() == bodies.len());
+    for (body, want) in ordered.bodies().iter().zip(bodies.iter()) {
+        assert!(rt; (body.row, body.x, body.y, body.z, body.mass) == *want);
     }
+    assert!(rt; ordered.idents() == idents);
+    assert!(rt; ordered.weights() == weights);
 }
 
 /// Statements, rows, and the bodies by key, idents and weights that they give.
@@ -144,7 +145,10 @@ fn bodies_of_files(rt: HostRuntime) {
     let alloc = rt.alloc();
     for (statements, rows, bodies, idents, weights) in &GIVEN {
         let file = file_of(&rt, alloc, statements, rows);
-        bodies_are(&rt, alloc, &file, bodies, idents, weights);
+        for piece in PIECES {
+            let ordered = ordered_of(&rt, alloc, &file, piece);
+            bodies_are(&rt, &ordered, bodies, idents, weights);
+        }
     }
 }
 
