@@ -61,7 +61,8 @@ fn two_on_two<R: Threads + Sync + Abort>(
 
 /// The report in a sink of so much room: all of it, or the front that has room, and a failure.
 fn report_is(rt: &impl Abort, alloc: Global, report: &RunReport, chunk: usize, room: usize) {
-    let mut err = MemSink::new(alloc, chunk.max(1), room as u64).expect(rt, "memory");
+    assert!(rt; 1 <= chunk && room <= 1000);
+    let mut err = MemSink::new(alloc, chunk, room as u64).expect(rt, "memory");
     let outcome = report_text(&mut err, report);
     assert_eq!(rt; outcome.is_err(), room < REPORT.len());
     assert_eq!(rt; err.written(), &REPORT[..room.min(REPORT.len())]);
@@ -92,7 +93,8 @@ fn what_a_report_holds(rt: HostRuntime) {
 
 /// The line of a sample in a sink of so much room: all of it, or a front and a failure.
 fn line_is(rt: &impl Abort, alloc: Global, sample: &Sample, chunk: usize, room: usize) {
-    let mut out = MemSink::new(alloc, chunk.max(1), room as u64).expect(rt, "memory");
+    assert!(rt; 1 <= chunk && room <= 1000);
+    let mut out = MemSink::new(alloc, chunk, room as u64).expect(rt, "memory");
     let outcome = sample_text(&mut out, sample);
     assert_eq!(rt; outcome.is_err(), room < SAMPLE.len());
     assert_eq!(rt; out.written(), &SAMPLE[..room.min(SAMPLE.len())]);
