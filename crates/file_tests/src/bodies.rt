@@ -20,7 +20,7 @@ fn cube_at(bits: u32, corner: i128) -> Cube
 }
 
 /// What a row is refused for.
-#[derive(Clone, Copy, Debug, PartialEq, Eq)]
+#[derive(Clone, Copy, PartialEq)]
 enum Refused {
     TooMany,
     Outside(u32, Axis),
@@ -44,9 +44,9 @@ type Case = ([i128; 3], i128, i128, Option<Refused>);
 
 /// The rows of the cases are taken or refused one after another.
 fn answers_are(rt: &impl Abort, set: &mut BodySet, cases: &[Case]) {
-    for (place, mass, work, want) in cases {
+    for (at, (place, mass, work, want)) in cases.iter().enumerate() {
         let got = refusal(set.push(&row_at(*place, *mass, 5, *work)));
-        assert_eq!(rt; got, *want, "at {place:?} {mass} {work}");
+        assert!(rt; got == *want, "row {at}");
     }
 }
 
@@ -168,7 +168,7 @@ fn full_set(rt: HostRuntime) {
     assert_eq!(rt; set.len(), 262_144);
     // it is full before anything else is looked at
     let answer = refusal(set.push(&row_at([-1, 0, 0], 0, 0, -1)));
-    assert_eq!(rt; answer, Some(Refused::TooMany));
+    assert!(rt; answer == Some(Refused::TooMany));
     let ordered = set.order(rt.alloc()).expect(&rt, "memory");
     assert_eq!(rt; ordered.bodies().len(), 262_144);
 }

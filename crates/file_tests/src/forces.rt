@@ -148,18 +148,30 @@ fn file_is(
     assert_eq!(rt; out.written(), &file[..room.min(file.len())]);
 }
 
+/// The same in a sink with room for all, and in one that fails within the second row.
+fn files_are(
+    rt: &impl Abort,
+    alloc: Global,
+    idents: &[i128],
+    forces: &[Acc3],
+    count: &[u8],
+    rows: &[u8],
+    chunk: usize,
+)
+    requires idents { All IsIdent idents.now }
+{
+    let file = file_of(rt, alloc, count, rows);
+    for room in [999, 300] {
+        file_is(rt, alloc, idents, forces, &file, chunk, room);
+    }
+}
+
 #[test]
 fn worked_files(rt: HostRuntime) {
     let alloc = rt.alloc();
-    let none = file_of(&rt, alloc, b"0", b"");
-    let pulled = file_of(&rt, alloc, b"2", PULLED_ROWS);
-    let strong = file_of(&rt, alloc, b"2", STRONG_ROWS);
     let wide = [18446744073709551615, -9223372036854775808];
-    // the second sink fails within the second row
-    for room in [999, 300] {
-        file_is(&rt, alloc, &[], &[], &none, 3, room);
-        file_is(&rt, alloc, &[0, 1], &[FIRST, SECOND], &pulled, 7, room);
-        file_is(&rt, alloc, &wide, &[STRONG, STRONG], &strong, 64, room);
-    }
+    files_are(&rt, alloc, &[], &[], b"0", b"", 3);
+    files_are(&rt, alloc, &[0, 1], &[FIRST, SECOND], b"2", PULLED_ROWS, 7);
+    files_are(&rt, alloc, &wide, &[STRONG, STRONG], b"2", STRONG_ROWS, 64);
     values_come_back();
 }

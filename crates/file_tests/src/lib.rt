@@ -10,6 +10,8 @@ mod forces;
 #[cfg(test)]
 mod headers;
 #[cfg(test)]
+mod layouts;
+#[cfg(test)]
 mod made;
 #[cfg(test)]
 mod plain;

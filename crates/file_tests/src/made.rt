@@ -18,11 +18,10 @@ const NO_BODIES: &[u8] =
 fn draws_from_seed_zero(rt: HostRuntime) {
     let first = next_state(0);
     let second = next_state(first);
-    assert_eq!(rt; first, 1_442_695_040_888_963_407);
-    assert_eq!(rt; second, 1_876_011_003_808_476_466);
-    assert_eq!(rt; next_state(second), 11_166_244_414_315_200_793);
-    let place = (drawn(0), drawn(first), drawn(second));
-    assert_eq!(rt; place, (164_015, 213_277, 1_269_455));
+    assert!(rt; first == 1_442_695_040_888_963_407);
+    assert!(rt; second == 1_876_011_003_808_476_466);
+    assert!(rt; next_state(second) == 11_166_244_414_315_200_793);
+    assert!(rt; [drawn(0), drawn(first), drawn(second)] == [164_015, 213_277, 1_269_455]);
 }
 
 /// The file of some bodies with seed 0 in a sink: all of it, or the front that has room, and a
@@ -31,8 +30,8 @@ fn file_is(rt: &impl Abort, alloc: Global, bodies: u32, file: &[u8], chunk: usiz
     assert!(rt; bodies <= 1 && 1 <= chunk && room <= 1000);
     let mut out = MemSink::new(alloc, chunk, room as u64).expect(rt, "memory");
     let outcome = write_made(&mut out, bodies, 0);
-    assert_eq!(rt; outcome.is_err(), room < file.len(), "room {room}");
-    assert_eq!(rt; out.written(), &file[..room.min(file.len())], "room {room}");
+    assert_eq!(rt; outcome.is_err(), room < file.len());
+    assert_eq!(rt; out.written(), &file[..room.min(file.len())]);
 }
 
 #[test]

@@ -54,9 +54,9 @@ fn are(rt: &impl Abort, state: &State, rows: &[Row]) {
     assert_eq!(rt; state.len(), rows.len());
     for (i, (place, v)) in rows.iter().enumerate() {
         let body = state.body(i).expect(rt, "a row");
-        assert_eq!(rt; [body.x, body.y, body.z, body.mass], *place);
-        assert_eq!(rt; body.row as usize, i);
-        assert_eq!(rt; state.velocity(i).expect(rt, "a row"), *v);
+        assert!(rt; [body.x, body.y, body.z, body.mass] == *place);
+        assert!(rt; body.row as usize == i);
+        assert!(rt; state.velocity(i) == Some(*v));
     }
     assert!(rt; state.body(rows.len()).is_none());
 }

@@ -77,9 +77,9 @@ fn worked_texts(rt: HostRuntime) {
 }
 
 fn record_is(rt: &impl Abort, rec: &CellRec, key: u64, count: u32, sum: u128) {
-    assert_eq!(rt; rec.key, key);
-    assert_eq!(rt; (rec.count, rec.mass), (count, u64::from(count)));
-    assert_eq!(rt; (rec.sx, rec.sy, rec.sz), (sum, 0, 0));
+    assert!(rt; rec.key == key && rec.count == count);
+    assert!(rt; rec.mass == u64::from(count));
+    assert!(rt; [rec.sx, rec.sy, rec.sz] == [sum, 0, 0]);
 }
 
 /// Four bodies one after another on the x axis, and no work weights.

@@ -3,7 +3,6 @@ use hot_model::Mail;
 use hot_words::{Command, Job, WordCode, WordFault, WordList, read_words, refusal};
 use std::alloc::{AllocError, Global};
 use std::process::Abort;
-use std::test::Fail;
 
 /// The words of a text, with one blank between each two; no words where it is empty.
 fn list(alloc: Global, words: &str) -> Result<WordList, AllocError> {
@@ -363,11 +362,9 @@ fn accepted_words(rt: HostRuntime) {
 }
 
 #[test]
-fn lists_of_words(rt: HostRuntime) -> Result<(), Fail> {
-    let alloc = rt.alloc();
-    let words = list(alloc, "forces f")?;
-    assert_eq!(rt; words.len(), 2);
-    assert_eq!(rt; words.get(1), Some("f"));
-    assert_eq!(rt; words.get(2), None);
-    Ok(())
+fn lists_of_words(rt: HostRuntime) {
+    let words = list(rt.alloc(), "forces f").expect(&rt, "memory");
+    assert!(rt; words.len() == 2);
+    assert!(rt; words.get(1) == Some("f"));
+    assert!(rt; words.get(2).is_none());
 }

@@ -2,13 +2,13 @@
 ghost use Rattle.std.specs.Prelude.{◌<◌, ◌^◌};
 
 use crate::plain::{Plain, plain_of};
+use crate::reports::{ran, visit_of};
 use crate::samples::{CUBE, row_at};
 use body_set::{BodySet, Ordered};
-use fixed_kernel::{Eps, ForceVisit, Ratio};
 use hot_model::{Acc3, ForceEngine, Mail};
 use plain_engine::PlainEngine;
-use rank_walk::{Effort, Found, Sharing, walk_over_ranks};
-use round_runner::{MemWire, OpenGate, Wire, drawn, next_state};
+use rank_walk::{Effort, Found, Sharing};
+use round_runner::{MemWire, Wire, drawn, next_state};
 use run_report::RunReport;
 use sdf_rows::RawRow;
 use std::alloc::Global;
@@ -113,10 +113,8 @@ fn plain_forces(rt: &impl Abort, alloc: Global, set: &Ordered, terms: Terms) -> 
 fn same_forces(rt: &impl Abort, found: &[Acc3], wanted: &[Acc3]) {
     assert_eq!(rt; found.len(), wanted.len());
     for (one, other) in found.iter().zip(wanted.iter()) {
-        assert_eq!(rt; one.seen, other.seen);
-        assert_eq!(rt; one.ax, other.ax);
-        assert_eq!(rt; one.ay, other.ay);
-        assert_eq!(rt; one.az, other.az);
+        assert!(rt; one.seen == other.seen);
+        assert!(rt; [one.ax, one.ay, one.az] == [other.ax, other.ay, other.az]);
     }
 }
 
@@ -130,6 +128,7 @@ fn same_effort(rt: &impl Abort, effort: &Effort, plain: &Plain, rank: usize) {
 /// What the ranks did is what the filters say.
 fn same_numbers(rt: &impl Abort, found: &Found<Acc3>, plain: &Plain, ranks: u32) {
     assert_eq!(rt; found.efforts.len(), ranks as usize);
+    assert!(rt; found.rounds <= plain.bound(ranks));
     for (rank, effort) in found.efforts.iter().enumerate() {
         same_effort(rt, effort, plain, rank);
     }
@@ -147,31 +146,25 @@ fn same_totals(rt: &impl Abort, report: &RunReport, plain: &Plain, ranks: u32, w
     assert_eq!(rt; report.bound(), u128::from(plain.bound(ranks)));
     assert_eq!(rt; report.letters(), wire.log().letters());
     assert_eq!(rt; report.rounds(), wire.log().rounds());
+    assert_eq!(rt; wire.pending(), 0);
 }
 
 /// One world under one mail.
 fn walk_world<R: Threads + Sync + Abort>(rt: &R, alloc: Global, draws: &mut Draws) {
     let terms = draw_terms(draws);
     let set = draw_set(rt, alloc, draws);
-    let ratio = Ratio::new(terms.num, terms.den).expect(rt, "a ratio");
-    let visit = ForceVisit::new(ratio, Eps::new(terms.eps).expect(rt, "a softening"));
     assert!(rt; 1 <= terms.ranks && terms.ranks <= 8 && 1 <= terms.leaf && terms.leaf <= 5);
     let sharing = Sharing {
         ranks: terms.ranks,
         leaf: terms.leaf,
         mail: terms.mail,
     };
-    let mut wire = MemWire::new(alloc).expect(rt, "memory");
-    let found = walk_over_ranks(rt, alloc, &set, sharing, visit, &mut wire, &OpenGate);
-    let found = found.expect(rt, "memory");
-    let wanted = plain_forces(rt, alloc, &set, terms);
-    same_forces(rt, &found.accs, &wanted);
+    let visit = visit_of(rt, terms.num, terms.den, terms.eps);
+    let (report, found, wire) = ran(rt, alloc, &set, sharing, visit);
+    same_forces(rt, &found.accs, &plain_forces(rt, alloc, &set, terms));
     let plain = plain_of(rt, alloc, &set, sharing, visit);
     same_numbers(rt, &found, &plain, terms.ranks);
-    let report = RunReport::of(alloc, &set, sharing, &found, wire.letters()).expect(rt, "memory");
     same_totals(rt, &report, &plain, terms.ranks, &wire);
-    assert_eq!(rt; wire.pending(), 0);
-    assert!(rt; found.rounds <= plain.bound(terms.ranks));
 }
 
 #[test]
