@@ -52,17 +52,16 @@ fn fault_is(rt: &impl Abort, alloc: Global, bytes: &[u8], fault: HeaderFault, pl
 }
 
 /// A front, a middle and a back.
-fn joined(rt: &impl Abort, alloc: Global, parts: [&[u8]; 3]) -> Vec<u8> {
-    let mut bytes = Vec::new(alloc);
-    for part in parts {
-        bytes.extend_from_slice(part).expect(rt, "memory");
-    }
+fn joined(rt: &impl Abort, alloc: Global, front: &[u8], middle: &[u8], back: &[u8]) -> Vec<u8> {
+    let mut bytes = Vec::from_slice(alloc, front).expect(rt, "memory");
+    bytes.extend_from_slice(middle).expect(rt, "memory");
+    bytes.extend_from_slice(back).expect(rt, "memory");
     bytes
 }
 
 /// The header of some statements.
 pub fn header_of(rt: &impl Abort, alloc: Global, statements: &[u8]) -> Vec<u8> {
-    joined(rt, alloc, [b"# SDF\n", statements, b"\n# SDF-EOH\n"])
+    joined(rt, alloc, b"# SDF\n", statements, b"\n# SDF-EOH\n")
 }
 
 /// Whole inputs, and their faults.
@@ -360,7 +359,7 @@ fn limits(rt: HostRuntime) {
     let alloc = rt.alloc();
     for (place, (front, byte, count, back, fault)) in LIMITS.iter().enumerate() {
         let middle = vec![in alloc; *byte; *count].expect(&rt, "memory");
-        let bytes = joined(&rt, alloc, [front, &middle, back]);
+        let bytes = joined(&rt, alloc, front, &middle, back);
         fault_is(&rt, alloc, &bytes, *fault, place);
     }
 }
@@ -390,7 +389,7 @@ fn a_column_too_many(rt: HostRuntime) {
     let alloc = rt.alloc();
     let many = many_columns(&rt, alloc);
     for (place, (last, fault)) in LAST_COLUMNS.iter().enumerate() {
-        let statements = joined(&rt, alloc, [&many, last, b""]);
+        let statements = joined(&rt, alloc, &many, last, b"");
         fault_is(
             &rt,
             alloc,
