@@ -1,5 +1,5 @@
 // Forces of files.
-ghost use Rattle.std.specs.Prelude.{◌≡◌, None, IfOk};
+ghost use Rattle.std.specs.Prelude.{◌≡◌, None};
 
 use super::{
     AMPLE, BROKEN, Ended, FileCase, MASSES, PAIR, PLACES, PULLS, WHOLE, WORDS, call, call_with,
@@ -8,12 +8,12 @@ use super::{
 use crate::Status;
 use hot_io::MemSource;
 use round_runner::{MemWire, OpenGate};
-use std::alloc::{AllocError, Global};
-use std::test::Fail;
+use std::alloc::Global;
+use std::process::Abort;
 use std::thread::Threads;
 
 #[test]
-fn forces_of_files(rt: HostRuntime) -> Result<(), Fail> {
+fn forces_of_files(rt: HostRuntime) {
     let alloc = rt.alloc();
     let far = [
         0, 0, 0, 1, 1_048_576, 0, 0, 4_194_304, 1_048_577, 0, 0, 4_194_304,
@@ -125,18 +125,16 @@ fn forces_of_files(rt: HostRuntime) -> Result<(), Fail> {
             b"",
         ),
     ];
-    check_files(&rt, alloc, &cases)?;
-    Ok(())
+    check_files(&rt, alloc, &cases);
 }
 
 #[test]
-fn most_significant_byte_first(rt: HostRuntime) -> Result<(), Fail> {
+fn most_significant_byte_first(rt: HostRuntime) {
     let alloc = rt.alloc();
-    let rows = most_first(alloc, &PAIR)?;
-    let input = file(alloc, b"0x12345678", MASSES, b"2", &rows)?;
-    let ended = call(&rt, alloc, WORDS, &input, AMPLE)?;
+    let rows = most_first(&rt, alloc, &PAIR);
+    let input = file(&rt, alloc, b"0x12345678", MASSES, b"2", &rows);
+    let ended = call(&rt, alloc, WORDS, &input, AMPLE);
     check(&rt, &ended, Status::Done, PULLS, b"");
-    Ok(())
 }
 
 /// The header that a converter wrote: comments, texts, a double, an array, and a form feed behind
@@ -145,11 +143,12 @@ const CONVERTED: &[u8] =
     b"# SDF 1.0\nparameter byteorder = 0x78563412;\n/* a small box, written by a converter */\nchar units[16] = \"fixed point\";\nint64_t npart = 2;\ndouble redshift = 0.5;\nint cube_bits = 21;\nint64_t cube_x0 = -1048576;\nint64_t cube_y0 = -1048576;\nint64_t cube_z0 = -1048576;\nint32_t mass = 2;\nstruct {\n\tint32_t x, y, z;\t/* position */\n\tfloat vx, vy, vz;\n\tint64_t ident;\n\tfloat phi[2];\n}[2];\n#\x0c\n# SDF-EOH\n";
 
 #[test]
-fn a_converted_file(rt: HostRuntime) -> Result<(), Fail> {
+fn a_converted_file(rt: HostRuntime) {
     let alloc = rt.alloc();
     for filler in [0, -1] {
         let low = -1_048_576;
         let rows = least_first(
+            &rt,
             alloc,
             &[
                 low,
@@ -173,38 +172,37 @@ fn a_converted_file(rt: HostRuntime) -> Result<(), Fail> {
                 filler,
                 filler,
             ],
-        )?;
+        );
         let pieces: [&[u8]; 2] = [CONVERTED, &rows];
-        let input = joined(alloc, &pieces)?;
-        let ended = call(&rt, alloc, "forces --eps 1", &input, AMPLE)?;
+        let input = joined(&rt, alloc, &pieces);
+        let ended = call(&rt, alloc, "forces --eps 1", &input, AMPLE);
         let lines = b"# hot forces 1\n900 2097150 0 0\n17 -2097150 0 0\n# end 2\n";
         check(&rt, &ended, Status::Done, lines, b"");
     }
-    Ok(())
 }
 
 /// Three named files, two of which were added under one name.
-fn named_files(alloc: Global) -> Result<MemSource, AllocError>
-    ensures fresh { IfOk result (λ s. (s.faults ≡ 0) × (s.opens ≡ 0) × (s.left ≡ None)) }
+fn named_files(rt: &impl Abort, alloc: Global) -> MemSource
+    ensures fresh { (result.faults ≡ 0) × (result.opens ≡ 0) × (result.left ≡ None) }
 {
-    let pair = plain_file(alloc, MASSES, b"2", &PAIR)?;
-    let mut source = MemSource::new(alloc, 7)?;
-    source.add("-", b"")?;
-    source.add("bodies", b"# SDF")?;
-    source.add("bodies", &pair)?;
-    source.add("other", b"# SDF")?;
-    Ok(source)
+    let pair = plain_file(rt, alloc, MASSES, b"2", &PAIR);
+    let mut source = MemSource::new(alloc, 7).expect(rt, "memory");
+    source.add("-", b"").expect(rt, "memory");
+    source.add("bodies", b"# SDF").expect(rt, "memory");
+    source.add("bodies", &pair).expect(rt, "memory");
+    source.add("other", b"# SDF").expect(rt, "memory");
+    source
 }
 
 /// A call on them.
-fn named<R: Threads + Sync>(rt: &R, alloc: Global, words: &str) -> Result<Ended, AllocError> {
-    let mut source = named_files(alloc)?;
-    let mut wire = MemWire::new(alloc)?;
+fn named<R: Threads + Sync + Abort>(rt: &R, alloc: Global, words: &str) -> Ended {
+    let mut source = named_files(rt, alloc);
+    let mut wire = MemWire::new(alloc).expect(rt, "memory");
     call_with(rt, alloc, words, &mut source, AMPLE, &mut wire, &OpenGate)
 }
 
 #[test]
-fn the_file_that_the_words_name(rt: HostRuntime) -> Result<(), Fail> {
+fn the_file_that_the_words_name(rt: HostRuntime) {
     let alloc = rt.alloc();
     let cases: [(&str, Status, &[u8], &[u8]); 7] = [
         ("forces --eps 1 bodies", Status::Done, PULLS, b""),
@@ -226,8 +224,7 @@ fn the_file_that_the_words_name(rt: HostRuntime) -> Result<(), Fail> {
         ("forces nowhere", Status::ReadFault, b"", BROKEN),
     ];
     for (words, status, out, err) in cases {
-        let ended = named(&rt, alloc, words)?;
+        let ended = named(&rt, alloc, words);
         check(&rt, &ended, status, out, err);
     }
-    Ok(())
 }

@@ -4,8 +4,8 @@ use super::{
     plain_file,
 };
 use crate::Status;
-use std::alloc::{AllocError, Global};
-use std::test::Fail;
+use std::alloc::Global;
+use std::process::Abort;
 
 /// The header up to the number of rows.
 const FRONT: &[u8] =
@@ -22,22 +22,24 @@ const PULL_ROWS: [Columns; 2] = [
 
 /// A file of forces. A low half that is not below 2^63 stands here as the signed number with its
 /// bits.
-fn forces_file(alloc: Global, count: &[u8], rows: &[Columns]) -> Result<Vec<u8>, AllocError> {
+fn forces_file(rt: &impl Abort, alloc: Global, count: &[u8], rows: &[Columns]) -> Vec<u8> {
     let front: [&[u8]; 3] = [FRONT, count, b"];\n# SDF-EOH\n"];
-    let mut bytes = joined(alloc, &front)?;
+    let mut bytes = joined(rt, alloc, &front);
     for row in rows {
         for column in row {
-            bytes.extend_from_slice(&column.to_le_bytes())?;
+            bytes
+                .extend_from_slice(&column.to_le_bytes())
+                .expect(rt, "memory");
         }
     }
-    Ok(bytes)
+    bytes
 }
 
 #[test]
-fn forces_as_sdf(rt: HostRuntime) -> Result<(), Fail> {
+fn forces_as_sdf(rt: HostRuntime) {
     let alloc = rt.alloc();
-    let pulls = forces_file(alloc, b"2", &PULL_ROWS)?;
-    let none = forces_file(alloc, b"0", &[])?;
+    let pulls = forces_file(&rt, alloc, b"2", &PULL_ROWS);
+    let none = forces_file(&rt, alloc, b"0", &[]);
     let cases: [FileCase<'_>; 3] = [
         (
             "forces --eps 1 --theta 0/1 --form sdf",
@@ -67,27 +69,25 @@ fn forces_as_sdf(rt: HostRuntime) -> Result<(), Fail> {
             b"",
         ),
     ];
-    check_files(&rt, alloc, &cases)?;
-    Ok(())
+    check_files(&rt, alloc, &cases);
 }
 
 /// A report is the same in both forms; an output that is full within a row is not followed by it.
 #[test]
-fn a_report_behind_sdf(rt: HostRuntime) -> Result<(), Fail> {
+fn a_report_behind_sdf(rt: HostRuntime) {
     let alloc = rt.alloc();
-    let input = plain_file(alloc, MASSES, b"2", &PAIR)?;
-    let pulls = forces_file(alloc, b"2", &PULL_ROWS)?;
+    let input = plain_file(&rt, alloc, MASSES, b"2", &PAIR);
+    let pulls = forces_file(&rt, alloc, b"2", &PULL_ROWS);
     let words = "forces --eps 1 --report --form sdf";
     let told =
         b"# hot report 1\nrank 0 bodies 2 opened 2 asks 0\nbranch 1 rank 0\nletters 0 rounds 1 cells 1 bound 1\n# end report\n";
     assert_eq!(rt; pulls.len(), 339);
-    let mut front = forces_file(alloc, b"2", &PULL_ROWS)?;
+    let mut front = forces_file(&rt, alloc, b"2", &PULL_ROWS);
     front.truncate(300);
     let full = Limits { room: 300, ..AMPLE };
     let cases: [Case<'_>; 2] = [
         (words, &input, AMPLE, Status::Done, &pulls, told),
         (words, &input, full, Status::WriteFault, &front, CUT),
     ];
-    check_calls(&rt, alloc, &cases)?;
-    Ok(())
+    check_calls(&rt, alloc, &cases);
 }

@@ -6,37 +6,29 @@ use super::{
     check_refusals, joined, plain_file,
 };
 use crate::Status;
-use std::alloc::{AllocError, Global};
+use std::alloc::Global;
 use std::process::Abort;
-use std::test::Fail;
 use std::thread::Threads;
 
 /// The same on two ranks, with the report.
 const REPORTED: &str = "forces --eps 1 --theta 0/1 --ranks 2 --report";
 
 /// Stops the source at each place, from the first byte to behind the last.
-fn check_stops<R: Threads + Sync + Abort>(
-    rt: &R,
-    alloc: Global,
-    words: &str,
-    input: &[u8],
-) -> Result<(), AllocError> {
+fn check_stops<R: Threads + Sync + Abort>(rt: &R, alloc: Global, words: &str, input: &[u8]) {
     for stop in 0..=input.len() as u64 {
-        let ended = call(rt, alloc, words, input, Limits { stop, ..AMPLE })?;
+        let ended = call(rt, alloc, words, input, Limits { stop, ..AMPLE });
         check(rt, &ended, Status::ReadFault, b"", BROKEN);
     }
-    Ok(())
 }
 
 #[test]
-fn a_source_that_stops_at_each_place(rt: HostRuntime) -> Result<(), Fail> {
+fn a_source_that_stops_at_each_place(rt: HostRuntime) {
     let alloc = rt.alloc();
-    let input = plain_file(alloc, MASSES, b"2", &PAIR)?;
+    let input = plain_file(&rt, alloc, MASSES, b"2", &PAIR);
     assert_eq!(rt; input.len(), 140);
     for words in [WORDS, REPORTED] {
-        check_stops(&rt, alloc, words, &input)?;
+        check_stops(&rt, alloc, words, &input);
     }
-    Ok(())
 }
 
 /// The status where a sink has this room for a text: a write fault, or this one where the text fits.
@@ -55,61 +47,50 @@ fn behind<'a>(room: usize, text: &[u8], whole: &'a [u8]) -> &'a [u8] {
 }
 
 /// Makes the call with an output of each room, up to that of its whole text.
-fn check_rooms<R: Threads + Sync + Abort>(
-    rt: &R,
-    alloc: Global,
-    case: Case<'_>,
-) -> Result<(), AllocError> {
+fn check_rooms<R: Threads + Sync + Abort>(rt: &R, alloc: Global, case: Case<'_>) {
     let (words, input, limits, status, out, err) = case;
     for room in 0..=out.len() {
         let limits = Limits {
             room: room as u64,
             ..limits
         };
-        let ended = call(rt, alloc, words, input, limits)?;
+        let ended = call(rt, alloc, words, input, limits);
         let status = status_of(room, out, status);
         check(rt, &ended, status, &out[..room], behind(room, out, err));
     }
-    Ok(())
 }
 
 #[test]
-fn an_output_of_each_room(rt: HostRuntime) -> Result<(), Fail> {
+fn an_output_of_each_room(rt: HostRuntime) {
     let alloc = rt.alloc();
-    let input = plain_file(alloc, MASSES, b"2", &PAIR)?;
+    let input = plain_file(&rt, alloc, MASSES, b"2", &PAIR);
     assert_eq!(rt; PULLS.len(), 52);
     let cases: [Case<'_>; 2] = [
         (WORDS, &input, AMPLE, Status::Done, PULLS, b""),
         (REPORTED, &input, AMPLE, Status::Done, PULLS, PAIR_REPORT),
     ];
     for case in cases {
-        check_rooms(&rt, alloc, case)?;
+        check_rooms(&rt, alloc, case);
     }
-    Ok(())
 }
 
 /// Makes the call with an error sink of each room, up to that of all that it tells.
-fn check_error_rooms<R: Threads + Sync + Abort>(
-    rt: &R,
-    alloc: Global,
-    case: Case<'_>,
-) -> Result<(), AllocError> {
+fn check_error_rooms<R: Threads + Sync + Abort>(rt: &R, alloc: Global, case: Case<'_>) {
     let (words, input, limits, status, out, err) = case;
     for room in 0..=err.len() {
         let limits = Limits {
             err_room: room as u64,
             ..limits
         };
-        let ended = call(rt, alloc, words, input, limits)?;
+        let ended = call(rt, alloc, words, input, limits);
         check(rt, &ended, status_of(room, err, status), out, &err[..room]);
     }
-    Ok(())
 }
 
 #[test]
-fn an_error_sink_of_each_room(rt: HostRuntime) -> Result<(), Fail> {
+fn an_error_sink_of_each_room(rt: HostRuntime) {
     let alloc = rt.alloc();
-    let input = plain_file(alloc, MASSES, b"2", &PAIR)?;
+    let input = plain_file(&rt, alloc, MASSES, b"2", &PAIR);
     let stopped = Limits { stop: 70, ..AMPLE };
     let full = Limits { room: 26, ..AMPLE };
     let cases: [Case<'_>; 6] = [
@@ -128,15 +109,14 @@ fn an_error_sink_of_each_room(rt: HostRuntime) -> Result<(), Fail> {
         (WORDS, &input, full, Status::WriteFault, &PULLS[..26], CUT),
     ];
     for case in cases {
-        check_error_rooms(&rt, alloc, case)?;
+        check_error_rooms(&rt, alloc, case);
     }
-    Ok(())
 }
 
 /// A header with this between its first and its last line.
-fn header(alloc: Global, middle: &[u8]) -> Result<Vec<u8>, AllocError> {
+fn header(rt: &impl Abort, alloc: Global, middle: &[u8]) -> Vec<u8> {
     let pieces: [&[u8]; 3] = [b"# SDF\n", middle, b"\n# SDF-EOH\n"];
-    joined(alloc, &pieces)
+    joined(rt, alloc, &pieces)
 }
 
 /// What stands between the first and the last line of a header, and the line that refuses it.
@@ -164,25 +144,27 @@ const HARMFUL: [(&[u8], &[u8]); 11] = [
 ];
 
 #[test]
-fn headers_made_to_harm(rt: HostRuntime) -> Result<(), Fail> {
+fn headers_made_to_harm(rt: HostRuntime) {
     let alloc = rt.alloc();
     for (middle, line) in HARMFUL {
-        let input = header(alloc, middle)?;
+        let input = header(&rt, alloc, middle);
         let cases: [Refusal<'_>; 1] = [(WORDS, &input, line)];
-        check_refusals(&rt, alloc, Status::Input, &cases)?;
+        check_refusals(&rt, alloc, Status::Input, &cases);
     }
-    Ok(())
 }
 
 /// One without an end within the longest length, and one that ends in its first line.
 #[test]
-fn the_longest_and_the_shortest_header(rt: HostRuntime) -> Result<(), Fail> {
+fn the_longest_and_the_shortest_header(rt: HostRuntime) {
     let alloc = rt.alloc();
-    let long = header(alloc, &vec![in alloc; b' '; 70_000]?)?;
+    let long = header(
+        &rt,
+        alloc,
+        &vec![in alloc; b' '; 70_000].expect(&rt, "memory"),
+    );
     let cases: [Refusal<'_>; 2] = [
         (WORDS, &long, b"hot: H2 header longer than 65536 bytes\n"),
         (WORDS, b"# SDF-EOH\n", b"hot: H8 no struct\n"),
     ];
-    check_refusals(&rt, alloc, Status::Input, &cases)?;
-    Ok(())
+    check_refusals(&rt, alloc, Status::Input, &cases);
 }

@@ -5,8 +5,8 @@ use super::{
 };
 use crate::Status;
 use round_runner::MeetGate;
-use std::alloc::{AllocError, Global};
-use std::test::Fail;
+use std::alloc::Global;
+use std::process::Abort;
 
 /// Two bodies on two ranks, each of which opens every cell.
 pub(super) const TWO_RANKS: &str = "forces --eps 1 --theta 0/1 --ranks 2";
@@ -26,9 +26,9 @@ pub(super) const ROW_PULLS: &[u8] =
     b"# hot forces 1\n0 8932854 0 0\n1 0 0 0\n2 -8932854 0 0\n# end 3\n";
 
 #[test]
-fn forces_under_each_mail(rt: HostRuntime) -> Result<(), Fail> {
+fn forces_under_each_mail(rt: HostRuntime) {
     let alloc = rt.alloc();
-    let input = plain_file(alloc, MASSES, b"2", &PAIR)?;
+    let input = plain_file(&rt, alloc, MASSES, b"2", &PAIR);
     for words in [
         TWO_RANKS,
         "forces --eps 1 --theta 0/1 --ranks 2 --mail prompt",
@@ -36,14 +36,13 @@ fn forces_under_each_mail(rt: HostRuntime) -> Result<(), Fail> {
         "forces --eps 1 --theta 0/1 --ranks 2 --mail single",
         "forces --eps 1 --theta 0/1 --ranks 2 --mail 5",
     ] {
-        let ended = call(&rt, alloc, words, &input, AMPLE)?;
+        let ended = call(&rt, alloc, words, &input, AMPLE);
         check(&rt, &ended, Status::Done, PULLS, b"");
     }
-    Ok(())
 }
 
 #[test]
-fn reports(rt: HostRuntime) -> Result<(), Fail> {
+fn reports(rt: HostRuntime) {
     let alloc = rt.alloc();
     let twins = [
         0, 0, 0, 1, 1_048_576, 0, 0, 4_194_304, 1_048_576, 0, 0, 4_194_304,
@@ -106,22 +105,20 @@ fn reports(rt: HostRuntime) -> Result<(), Fail> {
             b"# hot report 1\nrank 0 bodies 0 opened 0 asks 0\nrank 1 bodies 0 opened 0 asks 0\nletters 2 rounds 2 cells 0 bound 3\n# end report\n",
         ),
     ];
-    check_files(&rt, alloc, &cases)?;
-    Ok(())
+    check_files(&rt, alloc, &cases);
 }
 
 /// Adds the lines of ranks without bodies, from one rank up to another.
-fn add_idle_ranks(alloc: Global, text: &mut Vec<u8>, from: u32, to: u32) -> Result<(), AllocError> {
+fn add_idle_ranks(rt: &impl Abort, alloc: Global, text: &mut Vec<u8>, from: u32, to: u32) {
     for rank in from..to {
-        let line = format!(in alloc; "rank {rank} bodies 0 opened 0 asks 0\n")?;
-        text.extend_from_slice(line.as_bytes())?;
+        let line = format!(in alloc; "rank {rank} bodies 0 opened 0 asks 0\n").expect(rt, "memory");
+        text.extend_from_slice(line.as_bytes()).expect(rt, "memory");
     }
-    Ok(())
 }
 
 /// What is told of the three bodies on 64 ranks. Each is alone on its rank, opens the root, which
 /// is a leaf, and asks for the branches of the two others.
-fn row_report(alloc: Global) -> Result<Vec<u8>, AllocError> {
+fn row_report(rt: &impl Abort, alloc: Global) -> Vec<u8> {
     let ranks: [(&[u8], u32, u32); 3] = [
         (b"# hot report 1\nrank 0 bodies 1 opened 1 asks 2\n", 1, 21),
         (b"rank 21 bodies 1 opened 1 asks 2\n", 22, 42),
@@ -129,11 +126,11 @@ fn row_report(alloc: Global) -> Result<Vec<u8>, AllocError> {
     ];
     let mut text = Vec::new(alloc);
     for (line, from, to) in ranks {
-        text.extend_from_slice(line)?;
-        add_idle_ranks(alloc, &mut text, from, to)?;
+        text.extend_from_slice(line).expect(rt, "memory");
+        add_idle_ranks(rt, alloc, &mut text, from, to);
     }
-    text.extend_from_slice(ROW_BRANCHES)?;
-    Ok(text)
+    text.extend_from_slice(ROW_BRANCHES).expect(rt, "memory");
+    text
 }
 
 /// How that report ends.
@@ -141,10 +138,10 @@ const ROW_BRANCHES: &[u8] =
     b"branch 1152921504606846980 rank 42\nbranch 9223372036854775808 rank 0\nbranch 9223372036854775812 rank 21\nletters 4044 rounds 4 cells 4 bound 4537\n# end report\n";
 
 #[test]
-fn as_many_ranks_as_there_may_be(rt: HostRuntime) -> Result<(), Fail> {
+fn as_many_ranks_as_there_may_be(rt: HostRuntime) {
     let alloc = rt.alloc();
-    let input = plain_file(alloc, PLACES, b"3", &ROW)?;
-    let told = row_report(alloc)?;
+    let input = plain_file(&rt, alloc, PLACES, b"3", &ROW);
+    let told = row_report(&rt, alloc);
     let words = "forces --ranks 64 --report";
     let full = Limits { room: 20, ..AMPLE };
     let cases: [Case<'_>; 2] = [
@@ -159,18 +156,16 @@ fn as_many_ranks_as_there_may_be(rt: HostRuntime) -> Result<(), Fail> {
             CUT,
         ),
     ];
-    check_calls(&rt, alloc, &cases)?;
-    Ok(())
+    check_calls(&rt, alloc, &cases);
 }
 
 /// Ranks that step one after another never meet: the gate then lets the first one go at its limit.
 #[test]
-fn program_meets(rt: HostRuntime) -> Result<(), Fail> {
+fn program_meets(rt: HostRuntime) {
     let alloc = rt.alloc();
-    let input = plain_file(alloc, MASSES, b"2", &PAIR)?;
+    let input = plain_file(&rt, alloc, MASSES, b"2", &PAIR);
     let gate = MeetGate::new(1_000_000_000);
-    let ended = call_at(&rt, alloc, TWO_RANKS, &input, AMPLE, &gate)?;
+    let ended = call_at(&rt, alloc, TWO_RANKS, &input, AMPLE, &gate);
     check(&rt, &ended, Status::Done, PULLS, b"");
     assert!(rt; gate.met());
-    Ok(())
 }

@@ -3,10 +3,9 @@ use super::{
     FileCase, MASSES, PAIR, PLACES, Refusal, WORDS, check_files, check_refusals, joined, plain_file,
 };
 use crate::Status;
-use std::test::Fail;
 
 #[test]
-fn refused_rows(rt: HostRuntime) -> Result<(), Fail> {
+fn refused_rows(rt: HostRuntime) {
     let alloc = rt.alloc();
     let cases: [FileCase<'_>; 11] = [
         (
@@ -109,27 +108,25 @@ fn refused_rows(rt: HostRuntime) -> Result<(), Fail> {
             b"hot: H13 too many rows 262145\n",
         ),
     ];
-    check_files(&rt, alloc, &cases)?;
-    Ok(())
+    check_files(&rt, alloc, &cases);
 }
 
 #[test]
-fn a_byte_less_or_more(rt: HostRuntime) -> Result<(), Fail> {
+fn a_byte_less_or_more(rt: HostRuntime) {
     let alloc = rt.alloc();
-    let mut less = plain_file(alloc, MASSES, b"2", &PAIR)?;
+    let mut less = plain_file(&rt, alloc, MASSES, b"2", &PAIR);
     let pieces: [&[u8]; 2] = [&less, b"\0"];
-    let more = joined(alloc, &pieces)?;
+    let more = joined(&rt, alloc, &pieces);
     less.truncate(139);
     let cases: [Refusal<'_>; 2] = [
         (WORDS, &less, b"hot: B1 row 1 is cut short\n"),
         (WORDS, &more, b"hot: B2 bytes after the last row\n"),
     ];
-    check_refusals(&rt, alloc, Status::Input, &cases)?;
-    Ok(())
+    check_refusals(&rt, alloc, Status::Input, &cases);
 }
 
 #[test]
-fn refused_headers(rt: HostRuntime) -> Result<(), Fail> {
+fn refused_headers(rt: HostRuntime) {
     let alloc = rt.alloc();
     let cases: [Refusal<'_>; 9] = [
         (WORDS, b"", b"hot: H1 not an SDF file\n"),
@@ -166,12 +163,11 @@ fn refused_headers(rt: HostRuntime) -> Result<(), Fail> {
             b"hot: H12 bad parameter cube_bits\n",
         ),
     ];
-    check_refusals(&rt, alloc, Status::Input, &cases)?;
-    Ok(())
+    check_refusals(&rt, alloc, Status::Input, &cases);
 }
 
 #[test]
-fn refused_words(rt: HostRuntime) -> Result<(), Fail> {
+fn refused_words(rt: HostRuntime) {
     let alloc = rt.alloc();
     let cases: [Refusal<'_>; 11] = [
         ("", b"", b"hot: A1 no command\n"),
@@ -206,6 +202,5 @@ fn refused_words(rt: HostRuntime) -> Result<(), Fail> {
             b"hot: A6 bad value hdf for --form\n",
         ),
     ];
-    check_refusals(&rt, alloc, Status::Words, &cases)?;
-    Ok(())
+    check_refusals(&rt, alloc, Status::Words, &cases);
 }

@@ -5,7 +5,6 @@ use crate::Status;
 use round_runner::{Entry, Log, MemWire, OpenGate, StarveWire};
 use std::alloc::Global;
 use std::process::Abort;
-use std::test::Fail;
 use std::thread::Threads;
 
 /// The bytes of all letters that were posted.
@@ -22,40 +21,38 @@ fn bytes_posted(log: &Log) -> usize {
 /// The two bodies on two ranks, with the report, over a wire that starves a rank. It gives one
 /// letter a round. Each rank tells one branch (170 bytes), asks for one cell (14) and answers with
 /// one body (39).
-fn starve_pair<R: Threads + Sync + Abort>(rt: &R, alloc: Global, rank: u32) -> Result<(), Fail> {
-    let input = plain_file(alloc, MASSES, b"2", &PAIR)?;
-    let mut wire = StarveWire::new(alloc, rank)?;
+fn starve_pair<R: Threads + Sync + Abort>(rt: &R, alloc: Global, rank: u32) {
+    let input = plain_file(rt, alloc, MASSES, b"2", &PAIR);
+    let mut wire = StarveWire::new(alloc, rank).expect(rt, "memory");
     let words = "forces --eps 1 --theta 0/1 --ranks 2 --report";
-    let ended = call_over(rt, alloc, words, &input, AMPLE, &mut wire, &OpenGate)?;
+    let ended = call_over(rt, alloc, words, &input, AMPLE, &mut wire, &OpenGate);
     check(rt, &ended, Status::Done, PULLS, SINGLE_REPORT);
     assert_eq!(rt; bytes_posted(wire.log()), 2 * (170 + 14 + 39));
-    Ok(())
 }
 
 #[test]
-fn a_rank_is_starved(rt: HostRuntime) -> Result<(), Fail> {
+fn a_rank_is_starved(rt: HostRuntime) {
     let alloc = rt.alloc();
     for rank in [0, 1, u32::MAX] {
-        starve_pair(&rt, alloc, rank)?;
+        starve_pair(&rt, alloc, rank);
     }
-    let input = plain_file(alloc, MASSES, b"2", &PAIR)?;
-    let mut wire = MemWire::new(alloc)?;
-    let ended = call_over(&rt, alloc, TWO_RANKS, &input, AMPLE, &mut wire, &OpenGate)?;
+    let input = plain_file(&rt, alloc, MASSES, b"2", &PAIR);
+    let mut wire = MemWire::new(alloc).expect(&rt, "memory");
+    let ended = call_over(&rt, alloc, TWO_RANKS, &input, AMPLE, &mut wire, &OpenGate);
     check(&rt, &ended, Status::Done, PULLS, b"");
     assert_eq!(&rt; bytes_posted(wire.log()), 2 * (170 + 14 + 39));
-    Ok(())
 }
 
 #[test]
-fn three_bodies_over_two_wires(rt: HostRuntime) -> Result<(), Fail> {
+fn three_bodies_over_two_wires(rt: HostRuntime) {
     let alloc = rt.alloc();
-    let input = plain_file(alloc, PLACES, b"3", &ROW)?;
+    let input = plain_file(&rt, alloc, PLACES, b"3", &ROW);
     let words = "forces --ranks 64";
-    let mut starving = StarveWire::new(alloc, 21)?;
-    let ended = call_over(&rt, alloc, words, &input, AMPLE, &mut starving, &OpenGate)?;
+    let mut starving = StarveWire::new(alloc, 21).expect(&rt, "memory");
+    let ended = call_over(&rt, alloc, words, &input, AMPLE, &mut starving, &OpenGate);
     check(&rt, &ended, Status::Done, ROW_PULLS, b"");
-    let mut prompt = MemWire::new(alloc)?;
-    let ended = call_over(&rt, alloc, words, &input, AMPLE, &mut prompt, &OpenGate)?;
+    let mut prompt = MemWire::new(alloc).expect(&rt, "memory");
+    let ended = call_over(&rt, alloc, words, &input, AMPLE, &mut prompt, &OpenGate);
     check(&rt, &ended, Status::Done, ROW_PULLS, b"");
     // one letter a round, and then one round more; else branches, asks, answers and the last round
     assert_eq!(&rt;
@@ -63,7 +60,6 @@ fn three_bodies_over_two_wires(rt: HostRuntime) -> Result<(), Fail> {
         (4044, 4045)
     );
     assert_eq!(&rt; (prompt.log().letters(), prompt.log().rounds()), (4044, 4));
-    Ok(())
 }
 
 /// Two pairs of bodies at opposite corners of the cube, each parted on the last level only.
@@ -81,30 +77,28 @@ const CHAIN_REPORT: &[u8] =
     b"# hot report 1\nrank 0 bodies 2 opened 90 asks 22\nrank 1 bodies 2 opened 90 asks 22\nbranch 8 rank 0\nbranch 15 rank 1\nletters 86 rounds 44 cells 45 bound 93\n# end report\n";
 
 #[test]
-fn the_deepest_chain_takes_all_rounds(rt: HostRuntime) -> Result<(), Fail> {
+fn the_deepest_chain_takes_all_rounds(rt: HostRuntime) {
     let alloc = rt.alloc();
-    let input = plain_file(alloc, PLACES, b"4", &CHAIN)?;
+    let input = plain_file(&rt, alloc, PLACES, b"4", &CHAIN);
     for words in [
         "forces --theta 0/1 --leaf 1 --ranks 2 --report",
         "forces --theta 0/1 --leaf 1 --ranks 2 --report --mail last",
     ] {
-        let ended = call(&rt, alloc, words, &input, AMPLE)?;
+        let ended = call(&rt, alloc, words, &input, AMPLE);
         check(&rt, &ended, Status::Done, CHAIN_PULLS, CHAIN_REPORT);
     }
-    Ok(())
 }
 
 #[test]
-fn many_bodies_take_few_rounds(rt: HostRuntime) -> Result<(), Fail> {
+fn many_bodies_take_few_rounds(rt: HostRuntime) {
     let alloc = rt.alloc();
     for words in [
         "sample --bodies 2000 --seed 1 --ranks 8 --mail prompt",
         "sample --bodies 2000 --seed 1 --ranks 8 --mail last",
     ] {
-        let mut wire = MemWire::new(alloc)?;
-        let ended = call_over(&rt, alloc, words, b"", AMPLE, &mut wire, &OpenGate)?;
+        let mut wire = MemWire::new(alloc).expect(&rt, "memory");
+        let ended = call_over(&rt, alloc, words, b"", AMPLE, &mut wire, &OpenGate);
         assert_eq!(&rt; ended.status, Status::Done);
         assert!(&rt; wire.log().rounds() <= 44);
     }
-    Ok(())
 }
