@@ -16,6 +16,7 @@ import functools
 import importlib.machinery
 import importlib.util
 import os
+import re
 import shutil
 import sys
 import tempfile
@@ -26,6 +27,7 @@ import traceback
 TOP = os.path.dirname(os.path.dirname(os.path.abspath(__file__)))
 WANTED = {"rt": ("need", "processors", "free", "rtlib"), "rtlib": ("Crate", "guarded", "lock", "root_above", "stop_on_links", "stop_on_text", "files_of")}
 NO_SCHEDULER = 3
+QUICK = "quick"
 printing = threading.Lock()
 
 
@@ -72,10 +74,19 @@ def work(crate, step, _given, jobs):
         os._exit(2)
 
 
-def weight(rtlib, crate):
-    """About how long a crate takes, in lines: four of a proof are as one of code."""
+def noted_times():
+    """The processor seconds of the check of each crate, as the table of CONTRIBUTING.md has them."""
+    try:
+        with open(os.path.join(TOP, "CONTRIBUTING.md"), encoding="utf-8") as file:
+            return {name: int(check) for name, check in re.findall(r"^\| (\w+) \| (\d+) \| [^|]+ \| [^|]+ \| [\d.]+ \|$", file.read(), re.M)}
+    except OSError:
+        return {}
+
+
+def weight(rtlib, crate, noted):
+    """About how long a crate takes, in processor seconds: as noted, else by its lines: 28 of a proof, or 7 of code, a second."""
     proofs = sum(rtlib.text_of(it).count("\n") for it in rtlib.files_of(crate.folder) if it.endswith(".antt"))
-    return crate.count(rb"\n") + proofs // 4
+    return noted.get(crate.name) or (4 * crate.count(rb"\n") + proofs) // 28
 
 
 class Lanes:
@@ -103,7 +114,7 @@ class Lanes:
 
     def jobs_of(self, key, ready):
         """How many processors a task may use: all where no other has a longer chain behind it, else what the others do not need."""
-        is_first = all(self.behind[it] <= self.behind[key] for it in [*self.running, *ready])
+        is_first = all(self.behind[it] <= self.behind[key] for it in [*self.running, *ready] if it[1] != QUICK)
         wanted = self.lanes if is_first else (self.lanes - len(self.running)) // max(len(ready), 1)
         room = (self.memory - sum(self.running.values())) / self.tasks[key][2]
         return max(1, min(self.MOST_JOBS, wanted, 1 + int((room - 1) / self.MORE_MEMORY))), is_first
@@ -153,10 +164,11 @@ def main():
         rtlib.stop_on_text(crate, "check")
     build = lambda crate: lambda jobs: crate.build_rlib(["--jobs", str(jobs)], anew=False)
     # a quick pass over all sources, for what needs no proof to find
-    tasks = {(top.name, "quick"): ([], 10**6, 1_500_000_000, functools.partial(work, top, lambda _: top.front_end()))}
+    tasks = {(top.name, QUICK): ([], 10**6, 1_500_000_000, functools.partial(work, top, lambda _: top.front_end()))}
+    noted = noted_times()
     for crate in top.below():
         waits = [(it.name, "proof") for it in crate.below()]
-        tasks[crate.name, "proof"] = (waits, weight(rtlib, crate), rt.need(crate), functools.partial(work, crate, build(crate)))
+        tasks[crate.name, "proof"] = (waits, weight(rtlib, crate, noted), rt.need(crate), functools.partial(work, crate, build(crate)))
     Lanes(rt, tasks).run()
     return 0
 

@@ -17,14 +17,14 @@ use Rattle.body_set.specs.Sets.{SetValue, OrderedValue, in_key_order}
 use Rattle.round_runner.specs.declared.entry.Entry.{Entry}
 use Rattle.round_runner.specs.Desk.{Desk, rounds_in, letters_in}
 use Rattle.defer_walk.specs.Standing.{VisitOf, meaning, fold_in}
-use Rattle.rank_walk.specs.declared.gather.Effort.{Effort}
-use Rattle.rank_walk.specs.declared.sharing.Sharing.{Sharing}
-use Rattle.rank_walk.specs.Sharings.{shared}
-use Rattle.rank_walk.specs.Efforts.{AreFindsIn}
+use Rattle.rank_set.specs.declared.found.Effort.{Effort}
+use Rattle.rank_set.specs.declared.sharing.Sharing.{Sharing}
+use Rattle.rank_set.specs.Sharings.{shared}
+use Rattle.rank_set.specs.Efforts.{AreFindsIn}
 use Rattle.rank_walk.specs.Marks.{HasBegun, HasRun, Leaves}
 use Rattle.run_report.specs.Report.{ReportValue, report_of, SampleValue, sum_of}
 use Rattle.hot_words.specs.Commands.{JobValue}
-use Rattle.rank_walk.specs.Places.{ArePlaced}
+use Rattle.rank_set.specs.Places.{ArePlaced}
 use Rattle.hot.specs.Runs.{WireUse, unused, used, Wired, log_of, opens_in, settings_of, world_in, RunLeaves, RunBegan}
 use Rattle.hot.specs.Texts.{forces_of, run_report, sample_of}
 use Rattle.hot.specs.Prepared.{world_by, gravity_of, IsWalkOf, WalkLeaves, walk_report, report_if, IsRunOf, ComputeLeaves}

@@ -1,5 +1,6 @@
 pub mod Weights
 pub mod Places
+pub mod Ranks
 pub mod Truths
 pub mod Needing
 pub mod Posting

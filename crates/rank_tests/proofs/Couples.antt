@@ -6,7 +6,7 @@ use Rattle.rank_core.specs.Seat.{IsNew}
 use Rattle.rank_core.specs.Seats.{seat_of, visit_of}
 use Rattle.rank_core.specs.Standing.{RankState}
 use Rattle.protocol.specs.Joint.{AllNew}
-use Rattle.runs.specs.Running.{seats, Together}
+use Rattle.protocol.specs.Ranks.{seats, Together}
 
 each_of_two : {X : Type 0} (P : X → Type 0) (a b : X) → P a → P b → (q : ℕ) (x : X) → slice_get (a ∷ b ∷ []) q ≡ Some x → P x
 each_of_two P a b pa pb zero x e = let f : Some a ≡ Some x = e in let g : a ≡ x = cc in subst P g pa

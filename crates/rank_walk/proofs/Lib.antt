@@ -1,7 +1,2 @@
--- Lemmas on walks over ranks.
-pub mod Pieces
-pub mod Finds
-pub mod Making
+-- Lemmas on what a walk leaves.
 pub mod Leavings
-pub mod Finishes
-pub mod Settling

@@ -1,6 +1,1 @@
-pub mod Sharings
-pub mod Efforts
 pub mod Marks
-pub mod Made
-pub mod Standing
-pub mod Places

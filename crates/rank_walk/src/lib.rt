@@ -2,13 +2,7 @@
 //! Salmon, 1993).
 #![tactic(auto)]
 
-mod gather;
-mod make;
-mod place;
-mod sharing;
 mod walk;
 
-pub use gather::{Effort, Found};
-pub use place::place_by_row;
-pub use sharing::Sharing;
+pub use rank_set::{Effort, Found, Sharing, place_by_row};
 pub use walk::walk_over_ranks;

@@ -1,15 +1,13 @@
 // The walk of all bodies over ranks.
 ghost use Rattle.std.specs.Prelude.{◌≡◌, [], IfOk};
 ghost use Rattle.round_runner.specs.Desk.{rounds_in};
-ghost use Rattle.rank_walk.specs.Sharings.{shared};
+ghost use Rattle.rank_set.specs.Sharings.{shared};
 ghost use Rattle.rank_walk.specs.Marks.{Leaves};
-ghost use Rattle.rank_walk.specs.Standing.{AreFoundBy};
+ghost use Rattle.rank_set.specs.Standing.{AreFoundBy};
 
-use crate::gather::{Found, gather};
-use crate::make::make_ranks;
-use crate::sharing::Sharing;
 use body_set::Ordered;
 use hot_model::Visit;
+use rank_set::{Found, Sharing, gather, make_ranks};
 use round_runner::{Gate, Wire};
 use runs::run;
 use std::alloc::{AllocError, Global};

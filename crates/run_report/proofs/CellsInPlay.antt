@@ -22,7 +22,7 @@ use Rattle.hot_model.proofs.Demands.{opened_sound}
 use Rattle.hot_model.proofs.Homes.{ascends_same}
 use Rattle.branch_merge.specs.declared.listed.Listed.{Listed}
 use Rattle.branch_merge.proofs.Lists.{strict_ascends}
-use Rattle.rank_walk.specs.Efforts.{IsOpenedBy}
+use Rattle.rank_set.specs.Efforts.{IsOpenedBy}
 use Rattle.run_report.specs.Report.{AreInPlay}
 
 -- the keys of branches

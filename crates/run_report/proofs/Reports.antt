@@ -16,10 +16,10 @@ use Rattle.round_runner.specs.Desk.{letters_in, rounds_in}
 use Rattle.branch_merge.specs.declared.listed.Listed.{Listed}
 use Rattle.defer_walk.specs.Standing.{VisitOf}
 use Rattle.split_table.specs.Table.{branch_cells, branch_of, branches_over}
-use Rattle.rank_walk.specs.declared.gather.Effort.{Effort}
-use Rattle.rank_walk.specs.declared.sharing.Sharing.{Sharing}
-use Rattle.rank_walk.specs.Sharings.{shared}
-use Rattle.rank_walk.specs.Efforts.{effort_of, AreFindsIn, IsOpenedBy}
+use Rattle.rank_set.specs.declared.found.Effort.{Effort}
+use Rattle.rank_set.specs.declared.sharing.Sharing.{Sharing}
+use Rattle.rank_set.specs.Sharings.{shared}
+use Rattle.rank_set.specs.Efforts.{effort_of, AreFindsIn, IsOpenedBy}
 use Rattle.run_report.specs.Report.{AreInPlay, most_rounds, report_of}
 use Rattle.run_report.proofs.CellsInPlay.{branch_keys, met_are, met_ascend}
 

@@ -6,7 +6,7 @@ use Rattle.hot_model.specs.Trees.{opened}
 use Rattle.hot_model.specs.World.{World, IsGood}
 use Rattle.hot_model.specs.Branches.{IsBranch}
 use Rattle.hot_model.specs.Needs.{Needs, needed, met_cells}
-use Rattle.rank_walk.specs.Efforts.{IsOpenedBy}
+use Rattle.rank_set.specs.Efforts.{IsOpenedBy}
 
 -- a body opens no cell twice; the cells that a rank asks for are those that it needs, each once; the cells in play are those
 -- that some body opens and the branches, each once

@@ -10,8 +10,8 @@ use Rattle.round_runner.specs.declared.entry.Entry.{Entry}
 use Rattle.round_runner.specs.Desk.{letters_in, rounds_in}
 use Rattle.branch_merge.specs.declared.listed.Listed.{Listed}
 use Rattle.split_table.specs.Table.{branch_cells, branch_of}
-use Rattle.rank_walk.specs.declared.gather.Effort.{Effort}
-use Rattle.rank_walk.specs.Efforts.{effort_of}
+use Rattle.rank_set.specs.declared.found.Effort.{Effort}
+use Rattle.rank_set.specs.Efforts.{effort_of}
 use Rattle.run_report.specs.declared.sample.ForceSum.{ForceSum}
 
 -- what each rank does; the branches with their ranks; the letters and the rounds; the cells in play; the bound on rounds

@@ -3,7 +3,7 @@ use Rattle.std.specs.Prelude.{ℕ, List, ◌++◌, length, flat_map, codes, deci
 use Rattle.std.specs.Fmt.{signed_decimal}
 use Rattle.hot_io.specs.Writing.{line_end}
 use Rattle.branch_merge.specs.declared.listed.Listed.{Listed}
-use Rattle.rank_walk.specs.declared.gather.Effort.{Effort}
+use Rattle.rank_set.specs.declared.found.Effort.{Effort}
 use Rattle.run_report.specs.declared.sample.ForceSum.{ForceSum}
 use Rattle.run_report.specs.Report.{ReportValue, SampleValue, all_opened, all_asks}
 

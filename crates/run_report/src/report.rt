@@ -3,14 +3,14 @@ ghost use Rattle.hot_model.specs.Limits.{max_ranks};
 ghost use Rattle.round_runner.specs.declared.entry.Entry.{Entry};
 ghost use Rattle.round_runner.specs.Desk.{letters_in, rounds_in};
 ghost use Rattle.defer_walk.specs.Standing.{VisitOf};
-ghost use Rattle.rank_walk.specs.Sharings.{shared};
-ghost use Rattle.rank_walk.specs.Efforts.{AreFindsIn};
+ghost use Rattle.rank_set.specs.Sharings.{shared};
+ghost use Rattle.rank_set.specs.Efforts.{AreFindsIn};
 ghost use Rattle.run_report.specs.Report as reports;
 
 use crate::cells::cells_in_play;
 use body_set::Ordered;
 use branch_merge::Listed;
-use rank_walk::{Effort, Found, Sharing};
+use rank_set::{Effort, Found, Sharing};
 use split_table::branches_of_ranks;
 use std::alloc::{AllocError, Global};
 use std::marker::Model;

@@ -8,7 +8,7 @@ ghost use Rattle.run_report.specs.Text as text;
 use crate::{ForceSum, RunReport, Sample};
 use branch_merge::Listed;
 use hot_io::{Failed, LINE_ROOM, Line, Sink, write_all};
-use rank_walk::Effort;
+use rank_set::Effort;
 
 /// Writes the line of a rank.
 fn rank_line<E: Sink>(err: &mut E, effort: &Effort) -> Result<(), Failed>

@@ -19,36 +19,16 @@ use Rattle.rank_core.specs.Seat.{Seat, Moves, IsFresh, with_letter, refused}
 use Rattle.protocol.specs.Logs.{Legal, IsPrompt, taken_since}
 use Rattle.protocol.specs.Joint.{Joint, Worked, AllWorked, AllQuiet, IsStart, AllNew, IsBegun}
 use Rattle.protocol.specs.Depth.{Deep}
+use Rattle.protocol.specs.Ranks.{seats, ArePlaced, Together}
+use Rattle.protocol.proofs.Ranks.{seat_at, rank_at, seats_set, seats_len}
 use Rattle.protocol.proofs.Places.{get_within, get_one, get_some, get-set-same, get-set-other, set_cases, set_len}
 use Rattle.protocol.proofs.Keeping.{step_keeps, post_keeps, take_keeps, turn_keeps, round_keeps, quiet_ends, step_deepens, post_deep, take_deep, turn_deep, round_deep, rounds_left}
 use Rattle.protocol.proofs.Keeping.{start_holds}
 use Rattle.protocol.proofs.Taking.{taken_true, legal_take}
 use Rattle.rank_core.specs.Standing.{RankState}
 use Rattle.rank_core.specs.Seats.{seat_of, visit_of, Stepped, PopsOut}
-use Rattle.runs.specs.Running.{most_rounds, seats, ArePlaced, numbers, HasOneMore, SameMail, Frame, QuietAt, outbox_len, PopsAt, HandsAt, Together, Running, Over, RoundEnds}
-
--- seats of ranks
-pub seat_at : {V A : Type 0} (rs : List (RankState V A)) (q : ℕ) (r : RankState V A) → slice_get rs q ≡ Some r → slice_get (seats rs) q ≡ Some (seat_of r)
-seat_at [] q r e = let k : None ≡ Some r = e in cc
-seat_at (x ∷ rs) zero r e = let k : x ≡ r = cc in ap (λ y. Some (seat_of y)) k
-seat_at (x ∷ rs) (suc q) r e = seat_at rs q r e
-
--- a seat at a place is that of the rank at the place
-pub rank_at : {V A : Type 0} (rs : List (RankState V A)) (q : ℕ) (s : Seat) → slice_get (seats rs) q ≡ Some s → (r : RankState V A) × (slice_get rs q ≡ Some r) × ((seat_of r) ≡ s)
-rank_at [] q s e = absurd (let k : None ≡ Some s = e in cc)
-rank_at (x ∷ rs) zero s e = (x, refl, (let k : Some (seat_of x) ≡ Some s = e in cc))
-rank_at (x ∷ rs) (suc q) s e = rank_at rs q s e
-
--- after a change of one rank the seats are as before, but for the seat of that rank
-pub seats_set : {V A : Type 0} (rs : List (RankState V A)) (q : ℕ) (r : RankState V A) → seats (slice_set rs q r) ≡ slice_set (seats rs) q (seat_of r)
-seats_set [] q r = refl
-seats_set (x ∷ rs) zero r = refl
-seats_set (x ∷ rs) (suc q) r = ap (λ ss. (seat_of x) ∷ ss) (seats_set rs q r)
-
--- there are as many seats as ranks
-pub seats_len : {V A : Type 0} (rs : List (RankState V A)) → length (seats rs) ≡ length rs
-seats_len [] = refl
-seats_len (x ∷ rs) = ap suc (seats_len rs)
+use Rattle.protocol.specs.Ranks.{seats, ArePlaced, Together}
+use Rattle.runs.specs.Running.{most_rounds, numbers, HasOneMore, SameMail, Frame, QuietAt, outbox_len, PopsAt, HandsAt, Running, Over, RoundEnds}
 
 -- the numbers of ranks
 pub numbers_set : {V A : Type 0} (rs : List (RankState V A)) (q : ℕ) (s t : RankState V A) → slice_get rs q ≡ Some s → (seat_of t).me ≡ (seat_of s).me → numbers (slice_set rs q t) ≡ numbers rs

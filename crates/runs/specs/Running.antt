@@ -15,6 +15,7 @@ use Rattle.rank_core.specs.Truth.{TrueLetter}
 use Rattle.rank_core.specs.Seat.{Seat, IsFresh, with_inbox}
 use Rattle.protocol.specs.Logs.{Legal, Complete, IsPrompt, prompt_rounds}
 use Rattle.protocol.specs.Joint.{Joint, AllFinished}
+use Rattle.protocol.specs.Ranks.{seats, ArePlaced, Together}
 use Rattle.protocol.specs.Depth.{Deep}
 use Rattle.rank_core.specs.Standing.{RankState, StandsIn}
 use Rattle.rank_core.specs.Seats.{seat_of, visit_of, Stepped, Popped}
@@ -22,14 +23,6 @@ use Rattle.rank_core.specs.Seats.{seat_of, visit_of, Stepped, Popped}
 -- no run has more rounds: there are at most so many ranks and cells
 abbrev pub most_rounds : ℕ
 most_rounds = (max_ranks - 1) * (max_ranks + 2 * ((max_level + 1) * max_bodies)) + 1
-
--- the ranks, as the others see them
-abbrev pub seats : {V A : Type 0} → List (RankState V A) → List Seat
-seats rs = map seat_of rs
-
--- rank q is at place q
-abbrev pub ArePlaced : {V A : Type 0} → List (RankState V A) → Type 0
-ArePlaced {V} {A} rs = (q : ℕ) (r : RankState V A) → slice_get rs q ≡ Some r → (seat_of r).me ≡ q
 
 -- the numbers of the ranks, in their order
 abbrev pub numbers : {V A : Type 0} → List (RankState V A) → List ℕ
@@ -104,13 +97,6 @@ module _ {V A : Type 0} (Stands : World → RankState V A → Type 0) where
   -- the letter was handed to its receiver, and the other ranks are as they were
   abbrev pub HandsAt : List (RankState V A) → LetterValue → List (RankState V A) → Result (Unit {0}) AllocError → Type 0
   HandsAt rs l ts o = (s : RankState V A) × (t : RankState V A) × (slice_get rs l.to ≡ Some s) × (ts ≡ slice_set rs l.to t) × Took s l t o
-
-  -- all ranks have this visit and stand for the world
-  pub record Together (v : V) (w : World) (rs : List (RankState V A)) : Type 0 where
-    pub good : IsGood w
-    pub ranks : length rs ≡ w.ranks
-    pub stand : (q : ℕ) (r : RankState V A) → slice_get rs q ≡ Some r → Stands w r
-    pub visit : (q : ℕ) (r : RankState V A) → slice_get rs q ≡ Some r → visit_of r ≡ v
 
 module _ {V A : Type 0} (opens_by : V → BodyValue → CellValue → Bool) (Stands : World → RankState V A → Type 0) where
   -- all that holds of the ranks and the wire between two events; `stage` is 1 from the step of a round to its end

@@ -1,5 +1,5 @@
 use Rattle.std.proofs.Common.{◌≡◌, true, rules}
-use Rattle.rank_walk.specs.Sharings.{shared}
+use Rattle.rank_set.specs.Sharings.{shared}
 use Rattle.hot_words.specs.Commands.{job_value}
 use Rattle.hot.specs.Prepared.{gravity_of}
 use Rattle.hot.proofs.Walks.{reported, finds_at, world_is}

@@ -1,6 +1,6 @@
 use Rattle.std.proofs.Common.{◌≡◌, refl, inl, inr, ap, sym, ◌∙◌}
 use Rattle.protocol.proofs.Bounds.{few_letters}
-use Rattle.rank_walk.specs.Sharings.{shared}
+use Rattle.rank_set.specs.Sharings.{shared}
 use Rattle.rank_walk.specs.Marks.{HasBegun, HasRun}
 use Rattle.rank_walk.proofs.Leavings.{mail-begun, eager-begun, eager-then, leaves-err, leaves-run, answer-then}
 use Rattle.rank_walk.proofs.walk.walk_over_ranks.Goals as goal

@@ -2,7 +2,7 @@ use Rattle.std.proofs.Common.{get_or, rules}
 use Rattle.std.proofs.lemmas.List.{get_or_default}
 use Rattle.std.proofs.lemmas.Result.{err_from_is_err_and}
 use Rattle.hot_io.proofs.Texts.{line_written, cut_in_line}
-use Rattle.rank_walk.specs.declared.gather.Effort.{Effort}
+use Rattle.rank_set.specs.declared.found.Effort.{Effort}
 use Rattle.run_report.specs.Text.{rank_line}
 use Rattle.run_report.proofs.text.rank_lines.Goals as goal
 

@@ -4,7 +4,8 @@ use Rattle.round_runner.specs.declared.wire.Turn.TheVariants.{Used}
 use Rattle.protocol.specs.Logs.{taken_since}
 use Rattle.protocol.specs.Joint.{AllQuiet}
 use Rattle.rank_core.specs.Standing.{StandsIn}
-use Rattle.runs.specs.Running.{seats, numbers, Running, Frame}
+use Rattle.protocol.specs.Ranks.{seats}
+use Rattle.runs.specs.Running.{numbers, Running, Frame}
 use Rattle.runs.proofs.rounds.deliver.Given as goal
 
 -- in each world in which the ranks ran they run, and a letter was taken in this round

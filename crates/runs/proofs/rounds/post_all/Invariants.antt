@@ -2,7 +2,8 @@ use Rattle.std.proofs.Common.{◌≡◌, ℕ, ◌<◌}
 use Rattle.hot_model.specs.World.{World}
 use Rattle.protocol.specs.Joint.{AllWorked}
 use Rattle.rank_core.specs.Standing.{StandsIn}
-use Rattle.runs.specs.Running.{seats, numbers, Running, Frame, QuietAt}
+use Rattle.protocol.specs.Ranks.{seats}
+use Rattle.runs.specs.Running.{numbers, Running, Frame, QuietAt}
 use Rattle.runs.proofs.rounds.post_all.Given as goal
 
 -- in each world in which the ranks ran they run, and the outboxes below rank q are empty

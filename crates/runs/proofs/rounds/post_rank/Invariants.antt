@@ -2,7 +2,8 @@ use Rattle.std.proofs.Common.{◌≡◌, ◌≢◌, ℕ, ◌<◌, slice_get, len
 use Rattle.hot_model.specs.World.{World}
 use Rattle.protocol.specs.Joint.{AllWorked}
 use Rattle.rank_core.specs.Standing.{StandsIn}
-use Rattle.runs.specs.Running.{seats, numbers, Running, Frame, outbox_len}
+use Rattle.protocol.specs.Ranks.{seats}
+use Rattle.runs.specs.Running.{numbers, Running, Frame, outbox_len}
 use Rattle.runs.proofs.rounds.post_rank.Given as goal
 
 -- in each world in which the ranks ran they run, and all but q are as they were

@@ -2,7 +2,8 @@ use Rattle.std.proofs.Common.{◌≡◌, length, refl, ap, sym, subst, ◌∙◌
 use Rattle.round_runner.specs.Desk.{rounds_in}
 use Rattle.protocol.specs.Joint.{AllQuiet, AllFinished}
 use Rattle.rank_core.specs.Standing.{StandsIn}
-use Rattle.runs.specs.Running.{seats, numbers, Together, Running}
+use Rattle.protocol.specs.Ranks.{seats, Together}
+use Rattle.runs.specs.Running.{numbers, Running}
 use Rattle.protocol.proofs.Keeping.{few_rounds_of}
 use Rattle.runs.proofs.Runs.{running_new, begun_start, as_slice, ends_last, ends_more, back_in, rounds_small, below_word, same_on, eager_on, placed_by, new_placed}
 use Rattle.runs.proofs.rounds.run.Goals as goal

@@ -4,7 +4,8 @@ use Rattle.round_runner.specs.Desk.{rounds_in}
 use Rattle.round_runner.specs.declared.wire.Turn.TheVariants.{Free}
 use Rattle.protocol.specs.Joint.{AllQuiet, IsStart}
 use Rattle.rank_core.specs.Standing.{StandsIn}
-use Rattle.runs.specs.Running.{most_rounds, seats, numbers, SameMail, Together, Running}
+use Rattle.protocol.specs.Ranks.{seats, Together}
+use Rattle.runs.specs.Running.{most_rounds, numbers, SameMail, Running}
 use Rattle.runs.proofs.rounds.run.Given as goal
 
 -- before each round the ranks run, all outboxes are empty, and the rounds are counted

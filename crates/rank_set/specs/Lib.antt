@@ -1,0 +1,5 @@
+pub mod Sharings
+pub mod Efforts
+pub mod Made
+pub mod Standing
+pub mod Places
