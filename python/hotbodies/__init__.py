@@ -12,6 +12,7 @@ from .direct import Errors, direct_accelerations, relative_errors
 from .forces import Forces, read_forces
 from .header import FormatError
 from .run import ProgramError, ProgramMissing, accelerations, file_forces, find_program
+from .rounding import rounding_bounds
 from .scale import LossError, Scale, choose_scale
 
 __all__ = [
@@ -31,5 +32,6 @@ __all__ = [
     "read_bodies",
     "read_forces",
     "relative_errors",
+    "rounding_bounds",
     "write_bodies",
 ]

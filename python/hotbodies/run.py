@@ -9,12 +9,16 @@ import threading
 from fractions import Fraction
 from pathlib import Path
 
+import numpy as np
+
 from .bodies import body_bytes
 from .checks import as_masses, as_vectors
 from .forces import read_forces
 from .limits import MAX_LEAF, MAX_MOMENTS, MAX_RANKS, MAX_RATIO_NUMBER
+from .rounding import rounding_bounds
 
 VARIABLE = "HOT_PROGRAM"  # names the program to run
+FLOAT_LOSS = 2.0**-48  # the share that the way from whole numbers to physical units loses at most
 STATUSES = {1: "not built", 2: "words refused", 3: "file refused", 4: "read fault", 5: "write fault", 6: "out of memory"}
 
 
@@ -185,6 +189,7 @@ def accelerations(
     loss=0.01,
     scale=None,
     exact=False,
+    bound=False,
 ):
     """The accelerations of bodies by their gravity on each other, computed by the proved program `hot`.
 
@@ -206,19 +211,33 @@ def accelerations(
         loss: the largest share of a mass, or by an estimate of the pull on a body, that whole numbers may lose.
         scale: a Scale to use in place of the one that loses least.
         exact: whether to give the program's whole numbers and their scale.
+        bound: whether to give beside the answer how far each component is off by rounding at most, as it is proved. The
+            work of it is a square of N. At theta 0 that is how far it is from the exact sum over all pairs, for bodies
+            whose places, masses and softening are whole at the scale. At other ratios it bounds the rounding of pulls
+            alone, and says nothing of what cells that are taken whole leave out, which is mostly far more.
 
     Returns:
         ndarray or Forces: float64 of shape (N, 3), in the order given, in G times the unit of mass over the squared unit
-        of length; with `exact` a Forces, which has the whole numbers.
+        of length; with `exact` a Forces, which has the whole numbers. With `bound` a pair of it and the bounds, float64
+        of shape (N, 3) in the unit of the accelerations.
 
     Raises:
         ValueError: an array has another shape or an element out of its range (`write_bodies`), an option is out of its
-            range, or (LossError) more than `loss` would be lost.
+            range, (LossError) more than `loss` would be lost, or `bound` is wanted of second moments, for which none is
+            proved.
         ProgramError: the program refused the bodies (more than 262,144 are `H13`) or failed; it has the program's line.
         ProgramMissing: there is no program.
     """
     positions = as_vectors("positions", positions)
     masses = as_masses(masses, len(positions))
+    ratio = ratio_words(theta)
+    if bound and moments != 1 and Fraction(ratio):
+        raise ValueError("bound: of second moments none is proved")
     data, scale = body_bytes(positions, masses, eps=eps, loss=loss, scale=scale)
-    found = file_forces(data, scale, theta, scale.softening(eps), leaf, ranks, program, moments=moments)
-    return found if exact else found.accelerations(G)
+    softened = scale.softening(eps)
+    found = file_forces(data, scale, ratio, softened, leaf, ranks, program, moments=moments)
+    answer = found if exact else found.accelerations(G)
+    if not bound:
+        return answer
+    floats = np.abs(found.accelerations(G)) * FLOAT_LOSS
+    return answer, rounding_bounds(data, softened, ratio) * scale.acceleration(G) * (1 + FLOAT_LOSS) + floats

@@ -1,0 +1,5 @@
+pub mod Sizes
+pub mod Pulls
+pub mod Sides
+pub mod Forces
+pub mod Cells

@@ -1,0 +1,4 @@
+-- How near pulls and forces are to Newton's, without real numbers.
+pub mod Exact
+pub mod Sums
+pub mod Laws
