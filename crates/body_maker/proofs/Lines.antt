@@ -1,5 +1,5 @@
 -- Texts that grow part by part.
-use Rattle.std.proofs.Common.{◌≡◌, ℕ, List, [], ◌++◌, append_assoc, ◌∙◌, ap}
+use Rattle.std.proofs.Common.{◌≡◌, ℕ, List, [], ◌++◌, append_assoc, ◌∙◌}
 
 -- three parts behind a front, each the same as another
 pub three_added : (old one two three a b c d e f : List ℕ) → one ≡ old ++ a → two ≡ one ++ b → three ≡ two ++ c → a ≡ d → b ≡ e → c ≡ f → three ≡ old ++ (d ++ (e ++ f))

@@ -1,5 +1,5 @@
 -- The file of a state is written part by part.
-use Rattle.std.proofs.Common.{◌≡◌, ℕ, zero, suc, ◌+◌, ◌<◌, Bool, true, false, List, [], ◌∷◌, ◌++◌, length, take, get_or, map, Option, Some, None, Result, Ok, Err, ℤ, pos, Bor, refl, sym, ap, ◌∙◌, append_assoc, append-nil, subst, rules, arith}
+use Rattle.std.proofs.Common.{◌≡◌, ℕ, zero, suc, ◌+◌, ◌<◌, Bool, true, false, List, [], ◌∷◌, ◌++◌, length, take, get_or, map, Option, Some, None, ℤ, pos, Bor, refl, sym, ap, ◌∙◌, append_assoc, append-nil, subst, rules, arith}
 use Rattle.std.specs.Prelude.{codes, slice_get, All, IsSome}
 use Rattle.std.specs.Option.{option_copied}
 use Rattle.std.proofs.lemmas.Option.{slice_get-get_or}

@@ -1,6 +1,6 @@
 use Rattle.std.proofs.Common.{[], ◌++◌, flat_map, append_assoc}
 use Rattle.std.proofs.lemmas.Result.{err_from_is_err_and}
-use Rattle.hot_io.proofs.Texts.{behind_one, behind_two, behind_three}
+use Rattle.hot_io.proofs.Texts.{behind_one, behind_two}
 use Rattle.hot_io.proofs.Blocks.{passes_added, passes_next, passes_more, cut_behind, cut_before, ends}
 use Rattle.run_report.specs.Text.{first_line, rank_line, branch_line, totals_line, last_line}
 use Rattle.run_report.proofs.text.report_text.Goals as goal

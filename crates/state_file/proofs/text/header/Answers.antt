@@ -1,4 +1,3 @@
-use Rattle.std.specs.Fmt.{decimal}
 use Rattle.state_file.proofs.Writing.{header-added}
 use Rattle.state_file.proofs.text.header.Goals as goal
 
