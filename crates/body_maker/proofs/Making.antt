@@ -2,8 +2,8 @@
 use Rattle.std.proofs.Common.{ℕ, zero, suc, Option, ◌≡◌, ◌+◌, ◌-◌, ◌<◌, List, [], ◌∷◌, ◌++◌, length, map, flat_map, refl, ap, sym, ◌∙◌, arith, append-nil, append_assoc}
 use Rattle.std.proofs.lemmas.List.{map-append, length-map}
 use Rattle.std.proofs.lemmas.Grind.{flat_map-append}
-use Rattle.std.specs.Io.KnownBytes.{Appends}
-use Rattle.hot_io.proofs.Texts.{WritesFront, cut_in_part}
+use Rattle.hot_io.specs.Writing.{Passes}
+use Rattle.hot_io.proofs.Blocks.{SendsFront, cut_before}
 use Rattle.hot_model.specs.Branches.{numbers_below}
 use Rattle.body_set.specs.Sets.{SetValue, set_of_rows, empty_set, with_row}
 use Rattle.body_set.proofs.Adding.{bodies-length, rows_add_up}
@@ -82,11 +82,9 @@ rows-front seed k n (suc d) e =
       rows-more seed (k + d) n (place_at seed (k + d)) refl m ∙ ap (λ l. l ++ row_bytes (place_at seed (k + d))) p.1 ∙ append_assoc (flat_map row_bytes (places k seed)) p.0 (row_bytes (place_at seed (k + d))),
     )
 
--- a front of a row was written, behind the rows before it
-pub cut-row : (seed k n : ℕ) (place : Place) (old mid new : Option (List ℕ)) → place ≡ place_at seed k → k < n
-    → Appends old mid (flat_map row_bytes (places k seed)) → WritesFront mid new (row_bytes place) → WritesFront old new (flat_map row_bytes (places n seed))
-cut-row seed k n place old mid new p h =
-    let rest = rows-front seed (suc k) n (n - suc k) (omega (arith, h)) in
-    let more = rows-more seed k (suc k) place p refl in
-    cut_in_part old mid new (flat_map row_bytes (places n seed)) (flat_map row_bytes (places k seed)) (row_bytes place) rest.0
-    (rest.1 ∙ ap (λ l. l ++ rest.0) more ∙ append_assoc (flat_map row_bytes (places k seed)) (row_bytes place) rest.0)
+-- a front of the rows before a body was sent
+pub cut-rows : (seed k n : ℕ) (a b c : Option (List ℕ)) (h i : List ℕ) → k < n
+    → Passes a h b i (flat_map row_bytes (places k seed)) → SendsFront b i c [] → SendsFront a h c (flat_map row_bytes (places n seed))
+cut-rows seed k n a b c h i lt =
+    let rest = rows-front seed k n (n - k) (omega (arith, lt)) in
+    cut_before a b c h i (flat_map row_bytes (places n seed)) (flat_map row_bytes (places k seed)) rest.0 rest.1

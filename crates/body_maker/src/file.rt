@@ -1,61 +1,54 @@
 // Generated bodies as a body file.
-ghost use Rattle.std.specs.Prelude.{◌≡◌, flat_map};
+ghost use Rattle.std.specs.Prelude.{◌≡◌, ◌+◌, ◌≤◌, ◌++◌, length, flat_map};
 ghost use Rattle.hot_io.specs.Faults.{FailsExactly};
-ghost use Rattle.hot_io.specs.Writing.{Writes};
+ghost use Rattle.hot_io.specs.Writing.{Puts, Writes};
 ghost use Rattle.body_maker.specs.Generator.{places};
 ghost use Rattle.body_maker.specs.Made as made;
 
 use crate::generator::{Place, draw_place};
-use hot_io::{Failed, Sink, write_all, write_pieces};
-use itoa::Buffer;
+use hot_io::{BLOCK, Block, Failed, Sink};
 
 /// The bytes of a row: three coordinates of 32 bits.
 const ROW: usize = 12;
 
-/// Writes the row of a body, as one piece.
-fn write_row<O: Sink>(out: &mut O, place: Place) -> Result<(), Failed>
-    requires unfailed { O.faults out.old ≡ 0 }
-    ensures cause { FailsExactly (O.faults out.old) (O.faults out.new) result }
-    ensures text { Writes (O.written out.old) (O.written out.new) result (made.row_bytes place) }
+/// Adds the row of a body.
+fn add_row(block: &mut Block, place: Place)
+    requires room { length block.old + ROW ≤ BLOCK }
+    ensures row { block.new ≡ block.old ++ made.row_bytes place }
 {
-    let mut row = [0; ROW];
-    row[..4].copy_from_slice(&place.x.to_le_bytes());
-    row[4..8].copy_from_slice(&place.y.to_le_bytes());
-    row[8..].copy_from_slice(&place.z.to_le_bytes());
-    write_all(out, &row)
+    block.push(&place.x.to_le_bytes());
+    block.push(&place.y.to_le_bytes());
+    block.push(&place.z.to_le_bytes());
 }
 
-/// Writes the rows of so many bodies.
-fn write_rows<O: Sink>(out: &mut O, bodies: u32, seed: u64) -> Result<(), Failed>
+/// Puts the rows of so many bodies.
+fn put_rows<O: Sink>(block: &mut Block, out: &mut O, bodies: u32, seed: u64) -> Result<(), Failed>
     requires unfailed { O.faults out.old ≡ 0 }
     ensures cause { FailsExactly (O.faults out.old) (O.faults out.new) result }
-    ensures text { Writes (O.written out.old) (O.written out.new) result
+    ensures text { Puts (O.written out.old) block.old (O.written out.new) block.new result
         (flat_map made.row_bytes (places bodies seed)) }
 {
     let mut state = seed;
     for _k in 0..bodies {
         let (place, next) = draw_place(state);
-        write_row(out, place)?;
+        block.make_room(out, ROW)?;
+        add_row(block, place);
         state = next;
     }
     Ok(())
 }
 
-/// Writes the header of a file of so many bodies.
-fn write_header<O: Sink>(out: &mut O, bodies: u32) -> Result<(), Failed>
-    requires unfailed { O.faults out.old ≡ 0 }
-    ensures cause { FailsExactly (O.faults out.old) (O.faults out.new) result }
-    ensures text { Writes (O.written out.old) (O.written out.new) result (made.header bodies) }
+/// The header of a file of so many bodies, in a block.
+fn header(bodies: u32) -> Block
+    ensures header { result ≡ made.header bodies }
 {
-    let mut number = Buffer::new();
-    write_pieces(
-        out,
-        &[
-            b"# SDF\nparameter byteorder = 0x78563412;\nint cube_bits = 21;\nstruct {\n  int32_t x, y, z;\n}[",
-            number.format(bodies).as_bytes(),
-            b"];\n# SDF-EOH\n",
-        ],
-    )
+    let mut block = Block::new();
+    block.add(
+        "# SDF\nparameter byteorder = 0x78563412;\nint cube_bits = 21;\nstruct {\n  int32_t x, y, z;\n}[",
+        bodies,
+    );
+    block.push(b"];\n# SDF-EOH\n");
+    block
 }
 
 /// Writes a body file of so many generated bodies: its header, and a row of three coordinates for
@@ -67,6 +60,7 @@ pub fn write_made<O: Sink>(out: &mut O, bodies: u32, seed: u64) -> Result<(), Fa
     ensures text { Writes (O.written out.old) (O.written out.new) result
         (made.made_file bodies seed) }
 {
-    write_header(out, bodies)?;
-    write_rows(out, bodies, seed)
+    let mut block = header(bodies);
+    put_rows(&mut block, out, bodies, seed)?;
+    block.finish(out)
 }

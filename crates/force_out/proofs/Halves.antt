@@ -1,9 +1,8 @@
 -- The two halves of a value.
-use Rattle.std.proofs.Common.{◌≡◌, ◌<◌, ◌+◌, ◌-◌, ◌*◌, ◌/◌, ◌%◌, ◌^◌, ◌↔◌, ◌+ℤ◌, ◌*ℤ◌, ◌-ℤ◌, ℕ, suc, ℤ, pos, negsuc, refl, sym, ap, ◌∙◌, subst, arith, FitsSigned}
+use Rattle.std.proofs.Common.{◌≡◌, ◌<◌, ◌+◌, ◌-◌, ◌*◌, ◌/◌, ◌%◌, ◌^◌, ◌↔◌, ◌+ℤ◌, ◌*ℤ◌, ℕ, suc, ℤ, pos, negsuc, sym, ap, ◌∙◌, subst, arith, FitsSigned}
 use lib.IntN.{neg_ℤ, sub_ℕ}
 use mir.Syntax.{w64, w128}
 use Rattle.std.specs.Int.{cast_unsigned}
-use Rattle.std.proofs.lemmas.Int.{ints}
 use Rattle.std.proofs.lemmas.Bool.Decides.{nat_tests}
 use Rattle.byteorder.specs.Endian.{twos_complement}
 use Rattle.force_out.specs.ForcesSdf.{AreHalves, high_half, low_half}

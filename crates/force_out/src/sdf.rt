@@ -1,15 +1,14 @@
 // Forces as SDF.
-ghost use Rattle.std.specs.Prelude.{◌≡◌, ◌∷◌, [], length, All};
+ghost use Rattle.std.specs.Prelude.{◌≡◌, ◌+◌, ◌≤◌, ◌∷◌, ◌++◌, [], length, All};
 ghost use Rattle.hot_io.specs.Faults.{FailsExactly};
-ghost use Rattle.hot_io.specs.Writing.{Writes};
+ghost use Rattle.hot_io.specs.Writing.{Puts, Writes};
 ghost use Rattle.force_out.specs.Idents.{IsIdent};
 ghost use Rattle.force_out.specs.ForcesSdf as sdf;
 ghost use Rattle.force_out.specs.SdfReader.{HasOneParting, TellsAllBodies};
 
 use byteorder::{ByteOrder, LittleEndian};
-use hot_io::{Failed, Sink, write_all, write_pieces};
+use hot_io::{BLOCK, Block, Failed, Sink};
 use hot_model::Acc3;
-use itoa::Buffer;
 
 /// What the high half of a value counts: 2^64.
 const HIGH_UNIT: i128 = 1 << 64;
@@ -38,12 +37,10 @@ fn columns(value: i128) -> (u64, u64)
     (high_half(value).cast_unsigned(), low_half(value))
 }
 
-/// Writes the row of one body, as one piece: its ident and the three components.
-fn write_row<O: Sink>(out: &mut O, ident: i128, force: &Acc3) -> Result<(), Failed>
-    requires unfailed { O.faults out.old ≡ 0 }
-    ensures cause { FailsExactly (O.faults out.old) (O.faults out.new) result }
-    ensures row { Writes (O.written out.old) (O.written out.new) result
-        (sdf.body_row (ident, force.now)) }
+/// Adds the row of one body: its ident and the three components.
+fn add_row(block: &mut Block, ident: i128, force: &Acc3)
+    requires room { length block.old + ROW ≤ BLOCK }
+    ensures row { block.new ≡ block.old ++ sdf.body_row (ident, force.now) }
 {
     let name = columns(ident);
     let x = columns(force.ax);
@@ -51,38 +48,40 @@ fn write_row<O: Sink>(out: &mut O, ident: i128, force: &Acc3) -> Result<(), Fail
     let z = columns(force.az);
     let mut row = [0; ROW];
     LittleEndian::write_u64_into(&[name.0, name.1, x.0, x.1, y.0, y.1, z.0, z.1], &mut row);
-    write_all(out, &row)
+    block.push(&row);
 }
 
-/// Writes the rows of the bodies, in the order of the slices.
-fn write_rows<O: Sink>(out: &mut O, idents: &[i128], forces: &[Acc3]) -> Result<(), Failed>
+/// Puts the rows of the bodies, in the order of the slices.
+fn put_rows<O: Sink>(
+    block: &mut Block,
+    out: &mut O,
+    idents: &[i128],
+    forces: &[Acc3],
+) -> Result<(), Failed>
     requires unfailed { O.faults out.old ≡ 0 }
     requires paired { length idents.now ≡ length forces.now }
     ensures cause { FailsExactly (O.faults out.old) (O.faults out.new) result }
-    ensures rows { Writes (O.written out.old) (O.written out.new) result
+    ensures rows { Puts (O.written out.old) block.old (O.written out.new) block.new result
         (sdf.body_rows idents.now forces.now) }
 {
     for (i, force) in forces.iter().enumerate() {
-        write_row(out, idents[i], force)?;
+        block.make_room(out, ROW)?;
+        add_row(block, idents[i], force);
     }
     Ok(())
 }
 
-/// Writes the header of a file of so many bodies.
-fn write_header<O: Sink>(out: &mut O, count: usize) -> Result<(), Failed>
-    requires unfailed { O.faults out.old ≡ 0 }
-    ensures cause { FailsExactly (O.faults out.old) (O.faults out.new) result }
-    ensures header { Writes (O.written out.old) (O.written out.new) result (sdf.header count) }
+/// The header of a file of so many bodies, in a block.
+fn header(count: usize) -> Block
+    ensures header { result ≡ sdf.header count }
 {
-    let mut number = Buffer::new();
-    write_pieces(
-        out,
-        &[
-            b"# SDF\nparameter byteorder = 0x78563412;\nstruct {\n  int64_t ident_hi;\n  uint64_t ident_lo;\n  int64_t ax_hi;\n  uint64_t ax_lo;\n  int64_t ay_hi;\n  uint64_t ay_lo;\n  int64_t az_hi;\n  uint64_t az_lo;\n}[",
-            number.format(count).as_bytes(),
-            b"];\n# SDF-EOH\n",
-        ],
-    )
+    let mut block = Block::new();
+    block.add(
+        "# SDF\nparameter byteorder = 0x78563412;\nstruct {\n  int64_t ident_hi;\n  uint64_t ident_lo;\n  int64_t ax_hi;\n  uint64_t ax_lo;\n  int64_t ay_hi;\n  uint64_t ay_lo;\n  int64_t az_hi;\n  uint64_t az_lo;\n}[",
+        count,
+    );
+    block.push(b"];\n# SDF-EOH\n");
+    block
 }
 
 /// Writes the forces on the bodies as SDF: a header with the number of bodies, then for each body,
@@ -100,8 +99,9 @@ pub fn force_sdf<O: Sink>(out: &mut O, idents: &[i128], forces: &[Acc3]) -> Resu
     ensures file { Writes (O.written out.old) (O.written out.new) result
         (sdf.forces_sdf idents.now forces.now) }
 {
-    write_header(out, forces.len())?;
-    write_rows(out, idents, forces)
+    let mut block = header(forces.len());
+    put_rows(&mut block, out, idents, forces)?;
+    block.finish(out)
 }
 
 /// Laws of these files. A value has one high and one low half. A reader who takes the eight columns

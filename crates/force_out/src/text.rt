@@ -1,51 +1,55 @@
 // Forces as text.
-ghost use Rattle.std.specs.Prelude.{◌≡◌, ◌∷◌, [], length, All};
+ghost use Rattle.std.specs.Prelude.{◌≡◌, ◌+◌, ◌≤◌, ◌++◌, length, All};
 ghost use Rattle.hot_io.specs.Faults.{FailsExactly};
-ghost use Rattle.hot_io.specs.Writing.{Writes};
+ghost use Rattle.hot_io.specs.Writing.{Puts, Writes};
 ghost use Rattle.force_out.specs.Idents.{IsIdent};
-ghost use Rattle.force_out.specs.ForcesText.{number_line, body_lines, last_line, forces_text};
+ghost use Rattle.force_out.specs.ForcesText as text;
 
-use hot_io::{Failed, Line, Sink, write_all};
+use hot_io::{BLOCK, Block, Failed, Sink};
 use hot_model::Acc3;
 
-/// Writes the line of one body: its ident and the three components, with a space between each two.
-fn body_line<O: Sink>(out: &mut O, ident: i128, force: &Acc3) -> Result<(), Failed>
-    requires unfailed { O.faults out.old ≡ 0 }
-    ensures cause { FailsExactly (O.faults out.old) (O.faults out.new) result }
-    ensures text { Writes (O.written out.old) (O.written out.new) result
-        (number_line (ident ∷ force.now.ax ∷ force.now.ay ∷ force.now.az ∷ [])) }
+/// The most bytes of a line: four numbers, and a byte behind each.
+const LINE: usize = 164;
+
+/// Adds the line of one body: its ident and the three components, with a space between each two.
+fn add_body(block: &mut Block, ident: i128, force: &Acc3)
+    requires room { length block.old + LINE ≤ BLOCK }
+    ensures text { block.new ≡ block.old ++ text.body_line (ident, force.now) }
 {
-    let mut line = Line::new();
-    line.add("", ident);
-    line.add(" ", force.ax);
-    line.add(" ", force.ay);
-    line.add(" ", force.az);
-    line.write(out)
+    block.add("", ident);
+    block.add(" ", force.ax);
+    block.add(" ", force.ay);
+    block.add(" ", force.az);
+    block.push(b"\n");
 }
 
-/// Writes the lines of the bodies, in the order of the slices.
-fn all_lines<O: Sink>(out: &mut O, idents: &[i128], forces: &[Acc3]) -> Result<(), Failed>
+/// Puts the lines of the bodies, in the order of the slices.
+fn put_bodies<O: Sink>(
+    block: &mut Block,
+    out: &mut O,
+    idents: &[i128],
+    forces: &[Acc3],
+) -> Result<(), Failed>
     requires unfailed { O.faults out.old ≡ 0 }
     requires paired { length idents.now ≡ length forces.now }
     ensures cause { FailsExactly (O.faults out.old) (O.faults out.new) result }
-    ensures text { Writes (O.written out.old) (O.written out.new) result
-        (body_lines idents.now forces.now) }
+    ensures text { Puts (O.written out.old) block.old (O.written out.new) block.new result
+        (text.body_lines idents.now forces.now) }
 {
     for (i, force) in forces.iter().enumerate() {
-        body_line(out, idents[i], force)?;
+        block.make_room(out, LINE)?;
+        add_body(block, idents[i], force);
     }
     Ok(())
 }
 
-/// Writes the last line, which has the number of bodies.
-fn end_line<O: Sink>(out: &mut O, count: usize) -> Result<(), Failed>
-    requires unfailed { O.faults out.old ≡ 0 }
-    ensures cause { FailsExactly (O.faults out.old) (O.faults out.new) result }
-    ensures text { Writes (O.written out.old) (O.written out.new) result (last_line count) }
+/// Adds the last line, which has the number of bodies.
+fn add_end(block: &mut Block, count: usize)
+    requires room { length block.old + LINE ≤ BLOCK }
+    ensures text { block.new ≡ block.old ++ text.last_line count }
 {
-    let mut line = Line::new();
-    line.add("# end ", count);
-    line.write(out)
+    block.add("# end ", count);
+    block.push(b"\n");
 }
 
 /// Writes the forces on the bodies as text: the line `# hot forces 1`, then for each body, in the
@@ -62,9 +66,12 @@ pub fn force_text<O: Sink>(out: &mut O, idents: &[i128], forces: &[Acc3]) -> Res
     requires idents { All IsIdent idents.now }
     ensures cause { FailsExactly (O.faults out.old) (O.faults out.new) result }
     ensures text { Writes (O.written out.old) (O.written out.new) result
-        (forces_text idents.now forces.now) }
+        (text.forces_text idents.now forces.now) }
 {
-    write_all(out, b"# hot forces 1\n")?;
-    all_lines(out, idents, forces)?;
-    end_line(out, forces.len())
+    let mut block = Block::new();
+    block.push(b"# hot forces 1\n");
+    put_bodies(&mut block, out, idents, forces)?;
+    block.make_room(out, LINE)?;
+    add_end(&mut block, forces.len());
+    block.finish(out)
 }

@@ -3,3 +3,4 @@ pub mod Slices
 pub mod Texts
 pub mod Pieces
 pub mod Gains
+pub mod Blocks

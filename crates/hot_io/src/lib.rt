@@ -5,8 +5,8 @@
 //! [`Failed`] is counted, so a caller's contract can say that it comes from the outside alone.
 #![tactic(auto)]
 
+mod block;
 mod limits;
-mod line;
 mod mem_sink;
 mod mem_source;
 mod outside;
@@ -15,8 +15,8 @@ mod real;
 mod tests;
 mod writers;
 
-pub use limits::{MAX_OPENS, MAX_ROOM};
-pub use line::{LINE_ROOM, Line, NUMBER_ROOM};
+pub use block::Block;
+pub use limits::{BLOCK, MAX_OPENS, MAX_ROOM, NUMBER_ROOM};
 pub use mem_sink::MemSink;
 pub use mem_source::MemSource;
 pub use outside::{Failed, Sink, Source};

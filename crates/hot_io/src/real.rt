@@ -1,6 +1,8 @@
-// The files and streams of the system. They tell no content.
-ghost use Rattle.std.specs.Prelude.{◌≡◌, true, false};
+// The files and streams of the system. As sources and sinks they tell no content.
+ghost use Rattle.std.specs.Prelude.{◌≡◌, ◌+◌, ◌<◌, ◌≤◌, true, false, length, take};
+ghost use Rattle.std.specs.Prelude.{IfOk, OnOk, OnErr};
 ghost use Rattle.std.specs.Io.{WritesAtMost};
+ghost use Rattle.std.specs.Io.KnownBytes.{Appends};
 
 use crate::{Failed, Sink, Source};
 use std::fs::File;
@@ -107,16 +109,20 @@ impl<R: Files + Input> Source for FileSource<'_, R> {
 // Writes a front of the bytes, through any buffer that the writer has, and says how many it took.
 fn write_through<W: Write>(writer: &mut W, bytes: &[u8]) -> io::Result<usize>
     ensures bound { WritesAtMost result bytes.now }
+    ensures grown { IfOk result
+        (λ n. Appends (W.contents writer.old) (W.contents writer.new) (take n bytes.now)) }
 {
     let count = writer.write(bytes)?;
     writer.flush()?;
     Ok(count)
 }
 
-/// A writer of the system, as standard output, as a sink.
+/// A writer of the system, as standard output, as a sink, seen as what the writer tells of its
+/// contents and the count of faults.
 ///
-/// It tells no content. Each write is flushed before it is answered, and a failure of either is
-/// counted, so none is lost in a buffer at the end of the process. A call may wait for the system.
+/// As a sink it tells no content, since a flush that fails leaves open what was written. Each write
+/// is flushed before it is answered, and a failure of either is counted, so none is lost in a
+/// buffer at the end of the process. A call may wait for the system.
 #[derive(Drop)]
 pub struct OutSink<W: Write + Drop> {
     writer: W,
@@ -124,17 +130,17 @@ pub struct OutSink<W: Write + Drop> {
 }
 
 impl<W: Write + Drop> Model for OutSink<W> {
-    ghost use Rattle.std.specs.Prelude.{ℕ};
+    ghost use Rattle.hot_io.specs.Real.{OpenPage};
 
-    ghost Value = { ℕ };
+    ghost Value = { OpenPage };
 
-    ghost view = { λ s. s.faults };
+    ghost view = { λ s. record { contents = W.contents s.writer; faults = s.faults } };
 }
 
 impl<W: Write + Drop> OutSink<W> {
-    /// A sink over this writer, seen as its count of faults. No memory is taken.
+    /// A sink over this writer, without a fault. No memory is taken.
     pub fn new(writer: W) -> OutSink<W>
-        ensures value { result ≡ 0 }
+        ensures value { result ≡ record { contents = W.contents writer; faults = 0 } }
     {
         OutSink { writer, faults: 0 }
     }
@@ -145,9 +151,19 @@ impl<W: Write + Drop> Sink for OutSink<W> {
 
     ghost written = { λ s. None };
 
-    ghost faults = { λ s. s };
+    ghost faults = { λ s. s.faults };
 
-    fn write(&mut self, bytes: &[u8]) -> Result<usize, Failed> {
+    /// At `Ok(n)` the writer's contents, where it tells them, grew by the first `n` bytes, of which
+    /// there is at least one; else a fault is counted.
+    fn write(&mut self, bytes: &[u8]) -> Result<usize, Failed>
+        requires some { 0 < length bytes.now }
+        requires unfailed { self.old.faults ≡ 0 }
+        ensures bound { IfOk result (λ n. (0 < n) × (n ≤ length bytes.now)) }
+        ensures grown { IfOk result
+            (λ n. Appends self.old.contents self.new.contents (take n bytes.now)) }
+        ensures ok { OnOk result (self.new.faults ≡ self.old.faults) }
+        ensures err { OnErr result (self.new.faults ≡ self.old.faults + 1) }
+    {
         match write_through(&mut self.writer, bytes) {
             Ok(count) if count > 0 => Ok(count),
             _ => {
@@ -165,17 +181,17 @@ pub struct ErrSink<W: Write + Drop> {
 }
 
 impl<W: Write + Drop> Model for ErrSink<W> {
-    ghost use Rattle.std.specs.Prelude.{ℕ};
+    ghost use Rattle.hot_io.specs.Real.{OpenPage};
 
-    ghost Value = { ℕ };
+    ghost Value = { OpenPage };
 
     ghost view = { λ s. s.inner };
 }
 
 impl<W: Write + Drop> ErrSink<W> {
-    /// A sink over this writer, seen as its count of faults. No memory is taken.
+    /// A sink over this writer, without a fault. No memory is taken.
     pub fn new(writer: W) -> ErrSink<W>
-        ensures value { result ≡ 0 }
+        ensures value { result ≡ record { contents = W.contents writer; faults = 0 } }
     {
         ErrSink {
             inner: OutSink::new(writer),
@@ -188,9 +204,18 @@ impl<W: Write + Drop> Sink for ErrSink<W> {
 
     ghost written = { λ s. None };
 
-    ghost faults = { λ s. s };
+    ghost faults = { λ s. s.faults };
 
-    fn write(&mut self, bytes: &[u8]) -> Result<usize, Failed> {
+    /// The same as for [`OutSink`].
+    fn write(&mut self, bytes: &[u8]) -> Result<usize, Failed>
+        requires some { 0 < length bytes.now }
+        requires unfailed { self.old.faults ≡ 0 }
+        ensures bound { IfOk result (λ n. (0 < n) × (n ≤ length bytes.now)) }
+        ensures grown { IfOk result
+            (λ n. Appends self.old.contents self.new.contents (take n bytes.now)) }
+        ensures ok { OnOk result (self.new.faults ≡ self.old.faults) }
+        ensures err { OnErr result (self.new.faults ≡ self.old.faults + 1) }
+    {
         self.inner.write(bytes)
     }
 }

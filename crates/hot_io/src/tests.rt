@@ -189,25 +189,81 @@ fn memory_takes_piece_by_piece(rt: HostRuntime) -> Result<(), Fail> {
     Ok(())
 }
 
-// Whether a sink of so much room takes this front of a line, and fails or not.
-fn takes_a_line(alloc: Global, room: u64, text: &str, failed: bool) -> Result<bool, AllocError> {
-    let mut line = Line::new();
-    line.add("rank ", 3_u32);
-    line.add(" sum ", -7_i128);
+// Whether a sink of so much room takes this front of a text, and fails or not.
+fn takes_a_text(alloc: Global, room: u64, text: &str, failed: bool) -> Result<bool, AllocError> {
+    let mut block = Block::new();
+    block.add("rank ", 3_u32);
+    block.add(" sum ", -7_i128);
+    block.push(b"\n");
     let mut sink = MemSink::new(alloc, 4, room.min(MAX_ROOM))?;
-    let outcome = line.write(&mut sink);
+    let outcome = block.finish(&mut sink);
     Ok(outcome.is_err() == failed && sink.written() == text.as_bytes())
 }
 
 #[test]
-fn a_line_of_words_and_numbers(rt: HostRuntime) -> Result<(), Fail> {
+fn a_text_of_words_and_numbers(rt: HostRuntime) -> Result<(), Fail> {
     for (room, text, failed) in [
         (100, "rank 3 sum -7\n", false),
         (13, "rank 3 sum -7", true),
         (0, "", true),
     ] {
-        assert!(rt; takes_a_line(rt.alloc(), room, text, failed)?, "{room}");
+        assert!(rt; takes_a_text(rt.alloc(), room, text, failed)?, "{room}");
     }
+    Ok(())
+}
+
+// A sink that takes each piece whole, and counts its writes and bytes.
+#[derive(Drop)]
+struct Tally {
+    writes: usize,
+    bytes: usize,
+}
+
+impl Sink for Tally {
+    ghost written = { λ s. None };
+
+    ghost faults = { λ s. 0 };
+
+    fn write(&mut self, bytes: &[u8]) -> Result<usize, Failed> {
+        self.writes = self.writes.saturating_add(1);
+        self.bytes = self.bytes.saturating_add(bytes.len());
+        Ok(bytes.len())
+    }
+}
+
+// 2,000 numbers and a space before each are 8,890 bytes. A block is sent where the longest number
+// may not fit behind it: twice before the end.
+#[test]
+fn a_write_a_block(rt: HostRuntime) -> Result<(), Fail> {
+    let mut sink = Tally {
+        writes: 0,
+        bytes: 0,
+    };
+    let mut block = Block::new();
+    for number in 0..2_000_u32 {
+        assert!(rt; block.make_room(&mut sink, 41) == Ok(()));
+        block.add(" ", number);
+    }
+    assert!(rt; (sink.writes, sink.bytes < 8_890) == (2, true));
+    assert!(rt; block.finish(&mut sink) == Ok(()));
+    assert!(rt; (sink.writes, sink.bytes) == (3, 8_890));
+    Ok(())
+}
+
+// Bytes that fit no block go out at once, behind what was held.
+#[test]
+fn more_than_a_block(rt: HostRuntime) -> Result<(), Fail> {
+    let mut sink = Tally {
+        writes: 0,
+        bytes: 0,
+    };
+    let mut block = Block::new();
+    assert!(rt; block.put(&mut sink, b"key") == Ok(()));
+    assert!(rt; (sink.writes, sink.bytes) == (0, 0));
+    assert!(rt; block.put(&mut sink, &[b'0'; 4_097]) == Ok(()));
+    assert!(rt; (sink.writes, sink.bytes) == (2, 4_100));
+    assert!(rt; block.finish(&mut sink) == Ok(()));
+    assert!(rt; (sink.writes, sink.bytes) == (2, 4_100));
     Ok(())
 }
 

@@ -3,7 +3,7 @@ ghost use Rattle.std.specs.Prelude.{◌≡◌, map};
 ghost use Rattle.hot_io.specs.Faults.{FailsExactly};
 ghost use Rattle.hot_io.specs.Writing.{Writes, Tells, joined};
 
-use crate::{Failed, Sink};
+use crate::{Block, Failed, Sink};
 
 /// Writes all of `bytes`, as `Write::write_all` of Rust's standard library.
 ///
@@ -21,7 +21,7 @@ pub fn write_all<K: Sink>(sink: &mut K, bytes: &[u8]) -> Result<(), Failed>
     Ok(())
 }
 
-/// Writes the pieces one after another. Empty pieces are allowed, and passed over.
+/// Writes the pieces one after another, through a block. Empty pieces are allowed.
 ///
 /// `Failed` comes exactly where the sink's count of faults rises, and then a front of the pieces
 /// joined was written. No memory is taken.
@@ -31,10 +31,11 @@ pub fn write_pieces<K: Sink>(sink: &mut K, pieces: &[&[u8]]) -> Result<(), Faile
     ensures bytes { Writes (K.written sink.old) (K.written sink.new) result
         (joined (map (λ piece. piece.now) pieces.now)) }
 {
+    let mut block = Block::new();
     for piece in pieces {
-        write_all(sink, piece)?;
+        block.put(sink, piece)?;
     }
-    Ok(())
+    block.finish(sink)
 }
 
 /// The same as [`write_pieces`], for a caller whose contract speaks of what the sink gained.

@@ -1,5 +1,5 @@
 -- The cells in play.
-use Rattle.std.proofs.Common.{ℕ, zero, suc, ◌≡◌, ◌+◌, ◌-◌, ◌<◌, ◌≤◌, Bool, true, false, eqb, List, [], ◌∷◌, ◌++◌, length, map, filter, take, get_or, Contains, ◌↔◌, refl, ap, sym, ◌∙◌, subst, inl, inr, arith, append_assoc}
+use Rattle.std.proofs.Common.{ℕ, ◌≡◌, ◌+◌, ◌<◌, Bool, true, eqb, List, [], ◌∷◌, ◌++◌, length, map, filter, take, get_or, Contains, ◌↔◌, refl, ap, sym, ◌∙◌, subst, inl, inr, arith, append_assoc}
 use Rattle.std.specs.Prelude.{◌⊎◌, ◌||◌}
 use Rattle.std.specs.List.{list_any, dedup}
 use Rattle.std.specs.List.Sorted.{IsStrictlyIncreasing, IsPermutation, IsSorted}
@@ -16,7 +16,7 @@ use Rattle.hot_model.specs.World.{World, IsGood}
 use Rattle.hot_model.specs.Branches.{cells}
 use Rattle.hot_model.specs.Needs.{is_opened, is_listed, met_cells}
 use Rattle.hot_model.proofs.Members.{filter_has, has_filter, any_has, has_any}
-use Rattle.hot_model.proofs.Sorts.{Ascends, ascends_filter, ascends_strict}
+use Rattle.hot_model.proofs.Sorts.{ascends_filter, ascends_strict}
 use Rattle.hot_model.proofs.Counts.{cells-are, cells_ascend}
 use Rattle.hot_model.proofs.Demands.{opened_sound}
 use Rattle.hot_model.proofs.Homes.{ascends_same}

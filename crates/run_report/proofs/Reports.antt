@@ -1,10 +1,9 @@
 -- What a run shows, by what its ranks found.
-use Rattle.std.proofs.Common.{ℕ, zero, suc, ◌≡◌, ◌+◌, ◌-◌, ◌*◌, ◌≤◌, Bool, List, [], ◌∷◌, ◌++◌, length, map, filter, Contains, ◌↔◌, refl, ap, sym, ◌∙◌, subst, inl, inr, arith}
-use Rattle.std.specs.Prelude.{◌⊎◌, ◌||◌}
+use Rattle.std.proofs.Common.{ℕ, zero, suc, ◌≡◌, Bool, List, [], ◌∷◌, ◌++◌, length, map, Contains, refl, ap, sym, ◌∙◌, subst, inl, inr}
+use Rattle.std.specs.Prelude.{◌||◌}
 use Rattle.std.proofs.lemmas.List.{length-map}
 use Rattle.std.proofs.lemmas.List.Elements.{filter_agree}
-use Rattle.hot_model.specs.Limits.{max_ranks}
-use Rattle.hot_model.specs.Values.{BodyValue, CellValue}
+use Rattle.hot_model.specs.Values.{BodyValue}
 use Rattle.hot_model.specs.World.{World, IsGood, bodies_in}
 use Rattle.hot_model.specs.Split.{weight_in, split_world}
 use Rattle.hot_model.specs.Branches.{cells, is_branch, first_rank, numbers_below}
@@ -19,7 +18,7 @@ use Rattle.split_table.specs.Table.{branch_cells, branch_of, branches_over}
 use Rattle.rank_set.specs.declared.found.Effort.{Effort}
 use Rattle.rank_set.specs.declared.sharing.Sharing.{Sharing}
 use Rattle.rank_set.specs.Sharings.{shared}
-use Rattle.rank_set.specs.Efforts.{effort_of, AreFindsIn, IsOpenedBy}
+use Rattle.rank_set.specs.Efforts.{effort_of, AreFindsIn}
 use Rattle.run_report.specs.Report.{AreInPlay, most_rounds, report_of}
 use Rattle.run_report.proofs.CellsInPlay.{branch_keys, met_are, met_ascend}
 

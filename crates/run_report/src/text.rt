@@ -2,79 +2,76 @@
 ghost use Rattle.std.specs.Prelude.{◌≡◌, ◌≤◌, ◌+◌, ◌++◌, length, flat_map, sum_by};
 ghost use Rattle.hot_model.specs.Limits.{max_ranks};
 ghost use Rattle.hot_io.specs.Faults.{FailsExactly};
-ghost use Rattle.hot_io.specs.Writing.{Writes};
+ghost use Rattle.hot_io.specs.Writing.{Puts, Writes};
 ghost use Rattle.run_report.specs.Text as text;
 
 use crate::{ForceSum, RunReport, Sample};
 use branch_merge::Listed;
-use hot_io::{Failed, LINE_ROOM, Line, Sink, write_all};
+use hot_io::{BLOCK, Block, Failed, Sink};
 use rank_set::Effort;
 
-/// Writes the line of a rank.
-fn rank_line<E: Sink>(err: &mut E, effort: &Effort) -> Result<(), Failed>
-    requires unfailed { E.faults err.old ≡ 0 }
-    ensures cause { FailsExactly (E.faults err.old) (E.faults err.new) result }
-    ensures text { Writes (E.written err.old) (E.written err.new) result
-        (text.rank_line effort.now) }
+/// The most bytes of a line of a report: four numbers with the words before them.
+const LINE: usize = 192;
+
+/// Adds the line of a rank.
+fn add_effort(block: &mut Block, effort: &Effort)
+    requires room { length block.old + LINE ≤ BLOCK }
+    ensures text { block.new ≡ block.old ++ text.rank_line effort.now }
 {
-    let mut line = Line::new();
-    line.add("rank ", effort.rank);
-    line.add(" bodies ", effort.bodies);
-    line.add(" opened ", effort.opened);
-    line.add(" asks ", effort.asks);
-    line.write(err)
+    block.add("rank ", effort.rank);
+    block.add(" bodies ", effort.bodies);
+    block.add(" opened ", effort.opened);
+    block.add(" asks ", effort.asks);
+    block.push(b"\n");
 }
 
-/// Writes the line of a branch.
-fn branch_line<E: Sink>(err: &mut E, branch: &Listed) -> Result<(), Failed>
-    requires unfailed { E.faults err.old ≡ 0 }
-    ensures cause { FailsExactly (E.faults err.old) (E.faults err.new) result }
-    ensures text { Writes (E.written err.old) (E.written err.new) result
-        (text.branch_line branch.now) }
+/// Adds the line of a branch.
+fn add_branch(block: &mut Block, branch: &Listed)
+    requires room { length block.old + LINE ≤ BLOCK }
+    ensures text { block.new ≡ block.old ++ text.branch_line branch.now }
 {
-    let mut line = Line::new();
-    line.add("branch ", branch.rec.key);
-    line.add(" rank ", branch.rank);
-    line.write(err)
+    block.add("branch ", branch.rec.key);
+    block.add(" rank ", branch.rank);
+    block.push(b"\n");
 }
 
-/// Writes the line of totals.
-fn totals_line<E: Sink>(err: &mut E, report: &RunReport) -> Result<(), Failed>
-    requires unfailed { E.faults err.old ≡ 0 }
-    ensures cause { FailsExactly (E.faults err.old) (E.faults err.new) result }
-    ensures text { Writes (E.written err.old) (E.written err.new) result
-        (text.totals_line report.now) }
+/// Adds the line of totals.
+fn add_totals(block: &mut Block, report: &RunReport)
+    requires room { length block.old + LINE ≤ BLOCK }
+    ensures text { block.new ≡ block.old ++ text.totals_line report.now }
+    ensures short { length block.new ≤ length block.old + LINE }
 {
-    let mut line = Line::new();
-    line.add("letters ", report.letters());
-    line.add(" rounds ", report.rounds());
-    line.add(" cells ", report.cells());
-    line.add(" bound ", report.bound());
-    line.write(err)
+    block.add("letters ", report.letters());
+    block.add(" rounds ", report.rounds());
+    block.add(" cells ", report.cells());
+    block.add(" bound ", report.bound());
+    block.push(b"\n");
 }
 
-/// Writes the lines of all ranks.
-fn rank_lines<E: Sink>(err: &mut E, efforts: &[Effort]) -> Result<(), Failed>
+/// Puts the lines of all ranks.
+fn put_efforts<E: Sink>(block: &mut Block, err: &mut E, efforts: &[Effort]) -> Result<(), Failed>
     requires unfailed { E.faults err.old ≡ 0 }
     ensures cause { FailsExactly (E.faults err.old) (E.faults err.new) result }
-    ensures text { Writes (E.written err.old) (E.written err.new) result
+    ensures text { Puts (E.written err.old) block.old (E.written err.new) block.new result
         (flat_map text.rank_line efforts.now) }
 {
     for effort in efforts {
-        rank_line(err, effort)?;
+        block.make_room(err, LINE)?;
+        add_effort(block, effort);
     }
     Ok(())
 }
 
-/// Writes the lines of all branches.
-fn branch_lines<E: Sink>(err: &mut E, branches: &[Listed]) -> Result<(), Failed>
+/// Puts the lines of all branches.
+fn put_branches<E: Sink>(block: &mut Block, err: &mut E, branches: &[Listed]) -> Result<(), Failed>
     requires unfailed { E.faults err.old ≡ 0 }
     ensures cause { FailsExactly (E.faults err.old) (E.faults err.new) result }
-    ensures text { Writes (E.written err.old) (E.written err.new) result
+    ensures text { Puts (E.written err.old) block.old (E.written err.new) block.new result
         (flat_map text.branch_line branches.now) }
 {
     for branch in branches {
-        branch_line(err, branch)?;
+        block.make_room(err, LINE)?;
+        add_branch(block, branch);
     }
     Ok(())
 }
@@ -89,11 +86,14 @@ pub fn report_text<E: Sink>(err: &mut E, report: &RunReport) -> Result<(), Faile
     ensures text { Writes (E.written err.old) (E.written err.new) result
         (text.report_text report.now) }
 {
-    write_all(err, b"# hot report 1\n")?;
-    rank_lines(err, report.efforts())?;
-    branch_lines(err, report.branches())?;
-    totals_line(err, report)?;
-    write_all(err, b"# end report\n")
+    let mut block = Block::new();
+    block.push(b"# hot report 1\n");
+    put_efforts(&mut block, err, report.efforts())?;
+    put_branches(&mut block, err, report.branches())?;
+    block.make_room(err, 2 * LINE)?;
+    add_totals(&mut block, report);
+    block.push(b"# end report\n");
+    block.finish(err)
 }
 
 /// How many pairs all ranks opened.
@@ -121,37 +121,37 @@ fn all_asks(efforts: &[Effort]) -> u128
 }
 
 /// Adds what all ranks did.
-fn add_ranks(line: &mut Line, report: &RunReport)
-    requires room { length line.old + 150 ≤ LINE_ROOM }
-    ensures text { line.new ≡ line.old ++ text.ranks_part report.now }
-    ensures short { length line.new ≤ length line.old + 150 }
+fn add_ranks(block: &mut Block, report: &RunReport)
+    requires room { length block.old + 150 ≤ BLOCK }
+    ensures text { block.new ≡ block.old ++ text.ranks_part report.now }
+    ensures short { length block.new ≤ length block.old + 150 }
 {
     let efforts = report.efforts();
-    line.add(" ranks ", efforts.len());
-    line.add(" opened ", all_opened(efforts));
-    line.add(" asks ", all_asks(efforts));
+    block.add(" ranks ", efforts.len());
+    block.add(" opened ", all_opened(efforts));
+    block.add(" asks ", all_asks(efforts));
 }
 
 /// Adds the cells in play, the letters and the rounds.
-fn add_log(line: &mut Line, report: &RunReport)
-    requires room { length line.old + 150 ≤ LINE_ROOM }
-    ensures text { line.new ≡ line.old ++ text.log_part report.now }
-    ensures short { length line.new ≤ length line.old + 150 }
+fn add_log(block: &mut Block, report: &RunReport)
+    requires room { length block.old + 150 ≤ BLOCK }
+    ensures text { block.new ≡ block.old ++ text.log_part report.now }
+    ensures short { length block.new ≤ length block.old + 150 }
 {
-    line.add(" cells ", report.cells());
-    line.add(" letters ", report.letters());
-    line.add(" rounds ", report.rounds());
+    block.add(" cells ", report.cells());
+    block.add(" letters ", report.letters());
+    block.add(" rounds ", report.rounds());
 }
 
 /// Adds the sum of the forces.
-fn add_sum(line: &mut Line, sum: &ForceSum)
-    requires room { length line.old + 150 ≤ LINE_ROOM }
-    ensures text { line.new ≡ line.old ++ text.sum_part sum.now }
-    ensures short { length line.new ≤ length line.old + 150 }
+fn add_sum(block: &mut Block, sum: &ForceSum)
+    requires room { length block.old + 150 ≤ BLOCK }
+    ensures text { block.new ≡ block.old ++ text.sum_part sum.now }
+    ensures short { length block.new ≤ length block.old + 150 }
 {
-    line.add(" sum ", sum.x);
-    line.add(" ", sum.y);
-    line.add(" ", sum.z);
+    block.add(" sum ", sum.x);
+    block.add(" ", sum.y);
+    block.add(" ", sum.z);
 }
 
 /// Writes the line of a run on generated bodies. `Failed` comes exactly where the sink's count of
@@ -162,11 +162,12 @@ pub fn sample_text<O: Sink>(out: &mut O, sample: &Sample) -> Result<(), Failed>
     ensures text { Writes (O.written out.old) (O.written out.new) result
         (text.sample_line sample.now) }
 {
-    let mut line = Line::new();
-    line.add("sample bodies ", sample.bodies);
-    line.add(" seed ", sample.seed);
-    add_ranks(&mut line, &sample.report);
-    add_log(&mut line, &sample.report);
-    add_sum(&mut line, &sample.sum);
-    line.write(out)
+    let mut block = Block::new();
+    block.add("sample bodies ", sample.bodies);
+    block.add(" seed ", sample.seed);
+    add_ranks(&mut block, &sample.report);
+    add_log(&mut block, &sample.report);
+    add_sum(&mut block, &sample.sum);
+    block.push(b"\n");
+    block.finish(out)
 }

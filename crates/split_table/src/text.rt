@@ -1,104 +1,100 @@
 // A split as text.
 ghost use Rattle.std.specs.Prelude.{◌≡◌, ◌+◌, ◌≤◌, ◌++◌, length, flat_map};
 ghost use Rattle.hot_io.specs.Faults.{FailsExactly};
-ghost use Rattle.hot_io.specs.Writing.{Writes, line_end};
+ghost use Rattle.hot_io.specs.Writing.{Puts, Writes};
 ghost use Rattle.split_table.specs.Text as text;
 
 use crate::{Share, SplitTable};
 use branch_merge::Listed;
-use hot_io::{Failed, LINE_ROOM, Line, Sink, write_all};
+use hot_io::{BLOCK, Block, Failed, Sink};
 use hot_model::CellRec;
 
-/// Adds the numbers of a record to a line: the count, the mass and the three sums.
-fn add_numbers(line: &mut Line, rec: &CellRec)
-    requires room { length line.old + 226 ≤ LINE_ROOM }
-    ensures text { line.new ++ line_end ≡ line.old ++ text.numbers_of rec.now }
-    ensures short { length line.new ≤ length line.old + 225 }
+/// The most bytes of a line: seven numbers with the words before them.
+const LINE: usize = 320;
+
+/// Adds the numbers of a record, and the end of the line: the count, the mass and the three sums.
+fn add_numbers(block: &mut Block, rec: &CellRec)
+    requires room { length block.old + 226 ≤ BLOCK }
+    ensures text { block.new ≡ block.old ++ text.numbers_of rec.now }
 {
-    line.add(" count ", rec.count);
-    line.add(" mass ", rec.mass);
-    line.add(" sum ", rec.sx);
-    line.add(" ", rec.sy);
-    line.add(" ", rec.sz);
+    block.add(" count ", rec.count);
+    block.add(" mass ", rec.mass);
+    block.add(" sum ", rec.sx);
+    block.add(" ", rec.sy);
+    block.add(" ", rec.sz);
+    block.push(b"\n");
 }
 
-/// Writes the line of a rank.
-fn share_line<O: Sink>(out: &mut O, share: &Share) -> Result<(), Failed>
-    requires unfailed { O.faults out.old ≡ 0 }
-    ensures cause { FailsExactly (O.faults out.old) (O.faults out.new) result }
-    ensures text { Writes (O.written out.old) (O.written out.new) result
-        (text.share_line share.now) }
+/// Adds the line of a rank.
+fn add_share(block: &mut Block, share: &Share)
+    requires room { length block.old + LINE ≤ BLOCK }
+    ensures text { block.new ≡ block.old ++ text.share_line share.now }
 {
-    let mut line = Line::new();
-    line.add("rank ", share.rank);
-    line.add(" bodies ", share.bodies);
-    line.add(" weight ", share.weight);
-    line.add(" branches ", share.branches);
-    line.write(out)
+    block.add("rank ", share.rank);
+    block.add(" bodies ", share.bodies);
+    block.add(" weight ", share.weight);
+    block.add(" branches ", share.branches);
+    block.push(b"\n");
 }
 
-/// Writes the line of a branch.
-fn branch_line<O: Sink>(out: &mut O, branch: &Listed) -> Result<(), Failed>
-    requires unfailed { O.faults out.old ≡ 0 }
-    ensures cause { FailsExactly (O.faults out.old) (O.faults out.new) result }
-    ensures text { Writes (O.written out.old) (O.written out.new) result
-        (text.branch_line branch.now) }
+/// Adds the line of a branch.
+fn add_branch(block: &mut Block, branch: &Listed)
+    requires room { length block.old + LINE ≤ BLOCK }
+    ensures text { block.new ≡ block.old ++ text.branch_line branch.now }
 {
-    let mut line = Line::new();
     let rec = &branch.rec;
-    line.add("branch ", rec.key);
-    line.add(" rank ", branch.rank);
-    add_numbers(&mut line, rec);
-    line.write(out)
+    block.add("branch ", rec.key);
+    block.add(" rank ", branch.rank);
+    add_numbers(block, rec);
 }
 
-/// Writes the line of a top cell.
-fn top_line<O: Sink>(out: &mut O, rec: &CellRec) -> Result<(), Failed>
-    requires unfailed { O.faults out.old ≡ 0 }
-    ensures cause { FailsExactly (O.faults out.old) (O.faults out.new) result }
-    ensures text { Writes (O.written out.old) (O.written out.new) result (text.top_line rec.now) }
+/// Adds the line of a top cell.
+fn add_top(block: &mut Block, rec: &CellRec)
+    requires room { length block.old + LINE ≤ BLOCK }
+    ensures text { block.new ≡ block.old ++ text.top_line rec.now }
 {
-    let mut line = Line::new();
-    line.add("top ", rec.key);
-    add_numbers(&mut line, rec);
-    line.write(out)
+    block.add("top ", rec.key);
+    add_numbers(block, rec);
 }
 
-/// Writes the lines of all ranks.
-fn share_lines<O: Sink>(out: &mut O, shares: &[Share]) -> Result<(), Failed>
+/// Puts the lines of all ranks.
+fn put_shares<O: Sink>(block: &mut Block, out: &mut O, shares: &[Share]) -> Result<(), Failed>
     requires unfailed { O.faults out.old ≡ 0 }
     ensures cause { FailsExactly (O.faults out.old) (O.faults out.new) result }
-    ensures text { Writes (O.written out.old) (O.written out.new) result
+    ensures text { Puts (O.written out.old) block.old (O.written out.new) block.new result
         (flat_map text.share_line shares.now) }
 {
     for share in shares {
-        share_line(out, share)?;
+        block.make_room(out, LINE)?;
+        add_share(block, share);
     }
     Ok(())
 }
 
-/// Writes the lines of all branches.
-fn branch_lines<O: Sink>(out: &mut O, branches: &[Listed]) -> Result<(), Failed>
+/// Puts the lines of all branches.
+fn put_branches<O: Sink>(block: &mut Block, out: &mut O, branches: &[Listed]) -> Result<(), Failed>
     requires unfailed { O.faults out.old ≡ 0 }
     ensures cause { FailsExactly (O.faults out.old) (O.faults out.new) result }
-    ensures text { Writes (O.written out.old) (O.written out.new) result
+    ensures text { Puts (O.written out.old) block.old (O.written out.new) block.new result
         (flat_map text.branch_line branches.now) }
 {
     for branch in branches {
-        branch_line(out, branch)?;
+        block.make_room(out, LINE)?;
+        add_branch(block, branch);
     }
     Ok(())
 }
 
-/// Writes the lines of all top cells.
-fn top_lines<O: Sink>(out: &mut O, tops: &[CellRec]) -> Result<(), Failed>
+/// Puts the lines of all top cells.
+fn put_tops<O: Sink>(block: &mut Block, out: &mut O, tops: &[CellRec]) -> Result<(), Failed>
     requires unfailed { O.faults out.old ≡ 0 }
     ensures cause { FailsExactly (O.faults out.old) (O.faults out.new) result }
-    ensures text { Writes (O.written out.old) (O.written out.new) result
+    ensures text { Puts (O.written out.old) block.old (O.written out.new) block.new result
         (flat_map text.top_line tops.now) }
 {
     for rec in tops {
-        top_line(out, rec)?;
+        block.make_room(out, LINE)?;
+        add_top(block, rec);
     }
     Ok(())
 }
@@ -117,9 +113,12 @@ pub fn split_text<O: Sink>(out: &mut O, table: &SplitTable) -> Result<(), Failed
     ensures text { Writes (O.written out.old) (O.written out.new) result
         (text.table_text table.now) }
 {
-    write_all(out, b"# hot split 1\n")?;
-    share_lines(out, table.shares())?;
-    branch_lines(out, table.branches())?;
-    top_lines(out, table.tops())?;
-    write_all(out, b"# end split\n")
+    let mut block = Block::new();
+    block.push(b"# hot split 1\n");
+    put_shares(&mut block, out, table.shares())?;
+    put_branches(&mut block, out, table.branches())?;
+    put_tops(&mut block, out, table.tops())?;
+    block.make_room(out, LINE)?;
+    block.push(b"# end split\n");
+    block.finish(out)
 }

@@ -1,5 +1,5 @@
 -- The file of a state is written part by part.
-use Rattle.std.proofs.Common.{◌≡◌, ℕ, zero, suc, ◌+◌, ◌<◌, Bool, true, false, List, [], ◌∷◌, ◌++◌, length, take, get_or, map, Option, Some, None, Result, Ok, Err, ℤ, pos, Bor, refl, sym, ap, ◌∙◌, append_assoc, append-nil, subst, rules, arith}
+use Rattle.std.proofs.Common.{◌≡◌, ℕ, zero, suc, ◌+◌, ◌<◌, Bool, true, false, List, [], ◌∷◌, ◌++◌, length, take, get_or, map, Option, Some, None, ℤ, pos, Bor, refl, sym, ap, ◌∙◌, append_assoc, append-nil, subst, rules, arith}
 use Rattle.std.specs.Prelude.{codes, slice_get, All, IsSome}
 use Rattle.std.specs.Option.{option_copied}
 use Rattle.std.proofs.lemmas.Option.{slice_get-get_or}
@@ -7,9 +7,8 @@ use Rattle.std.proofs.lemmas.List.{length-map}
 use Rattle.std.proofs.lemmas.List.Elements.{All-get_or}
 use Rattle.std.specs.Fmt.{decimal}
 use Rattle.byteorder.specs.Endian.{little_bytes}
-use Rattle.std.proofs.KnownBytes.{Appends-trans}
-use Rattle.std.specs.Io.KnownBytes.{Appends}
-use Rattle.hot_io.specs.Writing.{joined, IsFront, Writes}
+use Rattle.hot_io.specs.Writing.{Passes}
+use Rattle.hot_io.proofs.Blocks.{SendsFront, passes_added, cut_before}
 use Rattle.hot_model.specs.Values.{BodyValue}
 use Rattle.hot_model.specs.Kernel.{components}
 use Rattle.leap_frog.specs.States.{vector_of}
@@ -30,34 +29,31 @@ header_middle = codes "\n  int64_t vx, vy, vz;\n}["
 abbrev pub header_end : List ℕ
 header_end = codes "];\n# SDF-EOH\n"
 
--- the pieces are the header
-pieces-are : (unsigned : Bool) (n : ℕ) → joined (header_front ∷ ident_line unsigned ∷ header_middle ∷ decimal n ∷ header_end ∷ []) ≡ state_header unsigned n
-pieces-are true n = ap (text_1 true) (sym (append_assoc (decimal n) (codes "];") (codes "\n# SDF-EOH\n")))
-pieces-are false n = ap (text_1 false) (sym (append_assoc (decimal n) (codes "];") (codes "\n# SDF-EOH\n")))
+-- the parts are the header
+parts-are : (unsigned : Bool) (n : ℕ) → header_front ++ (ident_line unsigned ++ (header_middle ++ (decimal n ++ header_end))) ≡ state_header unsigned n
+parts-are true n = ap (text_1 true) (sym (append_assoc (decimal n) (codes "];") (codes "\n# SDF-EOH\n")))
+parts-are false n = ap (text_1 false) (sym (append_assoc (decimal n) (codes "];") (codes "\n# SDF-EOH\n")))
 
--- the pieces that are written are the header
-pub header-joined : (unsigned : Bool) (n : ℕ) (line number : List ℕ) → line ≡ ident_line unsigned → number ≡ decimal n → joined (header_front ∷ line ∷ header_middle ∷ number ∷ header_end ∷ []) ≡ state_header unsigned n
-header-joined unsigned n line number e f = rw (e, f) (pieces-are unsigned n)
+-- parts behind nothing are joined from the right
+from-right : (a b c d e : List ℕ) → a ++ b ++ c ++ d ++ e ≡ a ++ (b ++ (c ++ (d ++ e)))
+from-right a b c d e = simp append_assoc
 
--- the pieces that are written are the row
-pub row-joined : (m : Moving) (ident : ℤ) (x y z mass i vx vy vz : List ℕ) → x ≡ little_bytes 4 m.body.x → y ≡ little_bytes 4 m.body.y → z ≡ little_bytes 4 m.body.z → mass ≡ little_bytes 4 m.body.mass → i ≡ little_bytes 8 (bits_of ident) → vx ≡ little_bytes 8 (bits_of m.velocity.x) → vy ≡ little_bytes 8 (bits_of m.velocity.y) → vz ≡ little_bytes 8 (bits_of m.velocity.z) → joined (x ∷ y ∷ z ∷ mass ∷ i ∷ vx ∷ vy ∷ vz ∷ []) ≡ row_text m ident
-row-joined m ident x y z mass i vx vy vz a b c d e f g h = rw (a, b, c, d, e, f, g, h) refl
+-- the parts that are added to nothing are the header
+pub header-added : (unsigned : Bool) (n : ℕ) (none one line two three four : List ℕ) → none ≡ [] → one ≡ none ++ header_front → line ≡ ident_line unsigned → two ≡ one ++ line → three ≡ two ++ header_middle ++ decimal n → four ≡ three ++ header_end
+    → four ≡ state_header unsigned n
+header-added unsigned n none one line two three four a b c d e f =
+    rw (f, e, d, c, b, a) (from-right header_front (ident_line unsigned) header_middle (decimal n) header_end ∙ parts-are unsigned n)
 
--- ---- fronts
+-- eight parts behind a front
+eight-joined : (o a b c d e f g h : List ℕ) → o ++ a ++ b ++ c ++ d ++ e ++ f ++ g ++ h ≡ o ++ (a ++ b ++ c ++ d ++ e ++ f ++ g ++ h)
+eight-joined o a b c d e f g h = simp append_assoc
 
--- a front of a text is a front of a longer one
-pub front_longer : (front text more : List ℕ) → IsFront front text → IsFront front (text ++ more)
-front_longer front text more f = (f.0 ++ more, ap (λ (l : List ℕ). l ++ more) f.1 ∙ append_assoc front f.0 more)
-
--- a front of what follows a text, behind the text
-pub front_behind : (text front more : List ℕ) → IsFront front more → IsFront (text ++ front) (text ++ more)
-front_behind text front more f = (f.0, ap (λ (l : List ℕ). text ++ l) f.1 ∙ sym (append_assoc text front f.0))
-
--- a text that was written, and then what was written of the next
-pub writes_next : {E : Type 0} (old mid new : Option (List ℕ)) (result : Result (Unit {0}) E) (text more : List ℕ) → Appends old mid text → Writes mid new result more → Writes old new result (text ++ more)
-writes_next old mid new (Ok x) text more a w = Appends-trans old mid new text more a w
-writes_next old mid new (Err x) text more a w =
-    (text ++ w.0, front_behind text w.0 more w.1, Appends-trans old mid new text w.0 a w.2)
+-- the parts that are added are the row
+pub row-added : (m : Moving) (ident : ℤ) (old x y z mass i vx vy vz r1 r2 r3 r4 r5 r6 r7 r8 : List ℕ) → x ≡ little_bytes 4 m.body.x → y ≡ little_bytes 4 m.body.y → z ≡ little_bytes 4 m.body.z → mass ≡ little_bytes 4 m.body.mass → i ≡ little_bytes 8 (bits_of ident) → vx ≡ little_bytes 8 (bits_of m.velocity.x) → vy ≡ little_bytes 8 (bits_of m.velocity.y) → vz ≡ little_bytes 8 (bits_of m.velocity.z)
+    → r1 ≡ old ++ x → r2 ≡ r1 ++ y → r3 ≡ r2 ++ z → r4 ≡ r3 ++ mass → r5 ≡ r4 ++ i → r6 ≡ r5 ++ vx → r7 ≡ r6 ++ vy → r8 ≡ r7 ++ vz → r8 ≡ old ++ row_text m ident
+row-added m ident old x y z mass i vx vy vz r1 r2 r3 r4 r5 r6 r7 r8 a b c d e f g h p1 p2 p3 p4 p5 p6 p7 p8 =
+    rw (p8, p7, p6, p5, p4, p3, p2, p1, a, b, c, d, e, f, g, h)
+    (eight-joined old (little_bytes 4 m.body.x) (little_bytes 4 m.body.y) (little_bytes 4 m.body.z) (little_bytes 4 m.body.mass) (little_bytes 8 (bits_of ident)) (little_bytes 8 (bits_of m.velocity.x)) (little_bytes 8 (bits_of m.velocity.y)) (little_bytes 8 (bits_of m.velocity.z)))
 
 -- ---- rows
 
@@ -70,31 +66,37 @@ row-of-state (m ∷ s) zero b v e f =
     rw (body, speed) refl
 row-of-state (m ∷ s) (suc i) b v e f = row-of-state s i b v e f
 
--- the rows before a place, the one there, and those behind
-rows-at : (s : List Moving) (idents : List ℤ) (i : ℕ) (m : Moving) (n : ℤ) → i < length s → i < length idents → m ≡ get_or s i m → n ≡ get_or idents i (pos 0)
-    → (rest : List ℕ) × (rows_text s idents ≡ rows_text (take i s) (take i idents) ++ (row_text m n ++ rest)) × (rows_text (take (suc i) s) (take (suc i) idents) ≡ rows_text (take i s) (take i idents) ++ row_text m n)
+-- the rows before a place, and those behind
+rows-front : (s : List Moving) (idents : List ℤ) (i : ℕ) → (rest : List ℕ) × (rows_text s idents ≡ rows_text (take i s) (take i idents) ++ rest)
 unfolding rows_text
-rows-at [] idents i m n h k d e = absurd (omega arith)
-rows-at (x ∷ s) [] i m n h k d e = absurd (omega arith)
-rows-at (x ∷ s) (y ∷ idents) zero m n h k d e = (rows_text s idents, rw (d, e) refl, rw (d, e) (append-nil (row_text x y)))
-rows-at (x ∷ s) (y ∷ idents) (suc i) m n h k d e =
-    let r = rows-at s idents i m n (omega arith) (omega arith) d e in
-    let before = rows_text (take i s) (take i idents) in (
-      r.0,
-      ap (λ (l : List ℕ). row_text x y ++ l) r.1 ∙ sym (append_assoc (row_text x y) before (row_text m n ++ r.0)),
-      ap (λ (l : List ℕ). row_text x y ++ l) r.2 ∙ sym (append_assoc (row_text x y) before (row_text m n)),
-    )
+rows-front [] idents zero = ([], refl)
+rows-front [] idents (suc i) = ([], refl)
+rows-front (x ∷ s) [] zero = ([], refl)
+rows-front (x ∷ s) [] (suc i) = ([], refl)
+rows-front (x ∷ s) (y ∷ idents) zero = (rows_text (x ∷ s) (y ∷ idents), refl)
+rows-front (x ∷ s) (y ∷ idents) (suc i) =
+    let r = rows-front s idents i in
+    (r.0, ap (λ (l : List ℕ). row_text x y ++ l) r.1 ∙ sym (append_assoc (row_text x y) (rows_text (take i s) (take i idents)) r.0))
 
--- one more row was written
+-- the rows of one body more are those before it and its own
+rows-next : (s : List Moving) (idents : List ℤ) (i : ℕ) (m : Moving) (n : ℤ) → i < length s → i < length idents → m ≡ get_or s i m → n ≡ get_or idents i (pos 0)
+    → rows_text (take (suc i) s) (take (suc i) idents) ≡ rows_text (take i s) (take i idents) ++ row_text m n
+unfolding rows_text
+rows-next [] idents i m n h k d e = absurd (omega arith)
+rows-next (x ∷ s) [] i m n h k d e = absurd (omega arith)
+rows-next (x ∷ s) (y ∷ idents) zero m n h k d e = rw (d, e) (append-nil (row_text x y))
+rows-next (x ∷ s) (y ∷ idents) (suc i) m n h k d e =
+    ap (λ (l : List ℕ). row_text x y ++ l) (rows-next s idents i m n (omega arith) (omega arith) d e) ∙ sym (append_assoc (row_text x y) (rows_text (take i s) (take i idents)) (row_text m n))
+
 pub rows-take : (s : List Moving) (idents : List ℤ) (i : ℕ) (m : Moving) (n : ℤ) → i < length s → i < length idents → m ≡ get_or s i m → n ≡ get_or idents i (pos 0) → rows_text (take (i + 1) s) (take (i + 1) idents) ≡ rows_text (take i s) (take i idents) ++ row_text m n
-rows-take s idents i m n h k d e = let z : i + 1 ≡ suc i = omega arith in rw z (rows-at s idents i m n h k d e).2
+rows-take s idents i m n h k d e = let z : i + 1 ≡ suc i = omega arith in rw z (rows-next s idents i m n h k d e)
 
--- a text that is cut in a row is a front of the rows
-pub cut-in-row : (s : List Moving) (idents : List ℤ) (i : ℕ) (m : Moving) (n : ℤ) (front : List ℕ) → i < length s → i < length idents → m ≡ get_or s i m → n ≡ get_or idents i (pos 0) → IsFront front (row_text m n) → IsFront (rows_text (take i s) (take i idents) ++ front) (rows_text s idents)
-cut-in-row s idents i m n front h k d e cut =
-    let r = rows-at s idents i m n h k d e in
-    let before = rows_text (take i s) (take i idents) in
-    rw r.1 (front_behind before front (row_text m n ++ r.0) (front_longer front (row_text m n) r.0 cut))
+-- a front of the rows before a body was sent
+pub cut-in-rows : (s : List Moving) (idents : List ℤ) (k : ℕ) (a b c : Option (List ℕ)) (h i : List ℕ)
+    → Passes a h b i (rows_text (take k s) (take k idents)) → SendsFront b i c [] → SendsFront a h c (rows_text s idents)
+cut-in-rows s idents k a b c h i =
+    let r = rows-front s idents k in
+    cut_before a b c h i (rows_text s idents) (rows_text (take k s) (take k idents)) r.0 r.1
 
 -- ---- what a state tells of a row that it has
 
@@ -118,7 +120,7 @@ velocity-there s i o e lt =
 pub writable-at : (s : List Moving) (i : ℕ) (m : Moving) → All IsWritable s → i < length s → m ≡ get_or s i m → IsWritable m
 writable-at s i m h lt e = rw e (All-get_or IsWritable s i m lt h)
 
--- no row was written yet
-pub rows-none : (old : Option (List ℕ)) → Appends old old (rows_text [] [])
+-- no row is on its way yet
+pub rows-none : (a : Option (List ℕ)) (held : List ℕ) → Passes a held a held (rows_text [] [])
 unfolding rows_text
-rows-none old = search rules
+rows-none a held = passes_added a held held [] (sym (append-nil held))

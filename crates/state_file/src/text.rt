@@ -1,16 +1,18 @@
-ghost use Rattle.std.specs.Prelude.{◌≡◌, ◌≤◌, ◌<◌, ◌^◌, ◌∷◌, ◌++◌, [], length, All, if◌then◌else◌};
+ghost use Rattle.std.specs.Prelude.{◌≡◌, ◌+◌, ◌≤◌, ◌<◌, ◌^◌, ◌∷◌, ◌++◌, [], length, All, if◌then◌else◌};
 ghost use Rattle.hot_io.specs.Faults.{FailsExactly};
-ghost use Rattle.hot_io.specs.Writing.{Writes};
+ghost use Rattle.hot_io.specs.Writing.{Puts, Writes};
 ghost use Rattle.leap_frog.specs.States.{vector_of};
 ghost use Rattle.state_file.specs.Headers.{ident_line, state_header};
 ghost use Rattle.sdf_rows.specs.Columns.{Is64Bits};
 ghost use Rattle.state_file.specs.Texts.{IsWritable, bits_of, row_text, rows_text};
 ghost use Rattle.state_file.specs.Texts.{state_text};
 
-use hot_io::{Failed, Sink, write_all, write_pieces};
+use hot_io::{BLOCK, Block, Failed, Sink};
 use hot_model::Body;
-use itoa::Buffer;
 use leap_frog::State;
+
+/// The bytes of a row.
+const ROW: usize = 48;
 
 /// A number of 8 bytes in two's complement.
 fn bits(n: i128) -> u64
@@ -26,7 +28,8 @@ fn bits(n: i128) -> u64
 
 /// The line of the ident column.
 fn line_of(unsigned: bool) -> &'static [u8]
-    ensures { result.now ≡ ident_line unsigned }
+    ensures value { result.now ≡ ident_line unsigned }
+    ensures short { length result.now ≤ 17 }
 {
     if unsigned {
         b"  uint64_t ident;"
@@ -35,65 +38,59 @@ fn line_of(unsigned: bool) -> &'static [u8]
     }
 }
 
-/// Writes the header of the file of so many bodies.
-fn write_header<O: Sink>(out: &mut O, unsigned: bool, count: usize) -> Result<(), Failed>
-    requires unfailed { O.faults out.old ≡ 0 }
-    ensures cause { FailsExactly (O.faults out.old) (O.faults out.new) result }
-    ensures text { Writes (O.written out.old) (O.written out.new) result
-        (state_header unsigned count) }
+/// The header of the file of so many bodies, in a block.
+fn header(unsigned: bool, count: usize) -> Block
+    ensures text { result ≡ state_header unsigned count }
 {
-    let mut number = Buffer::new();
-    write_pieces(
-        out,
-        &[
-            b"# SDF\nparameter byteorder = 0x78563412;\nint cube_bits = 29;\nstruct {\n  \
-              int32_t x, y, z;\n  uint32_t mass;\n",
-            line_of(unsigned),
-            b"\n  int64_t vx, vy, vz;\n}[",
-            number.format(count).as_bytes(),
-            b"];\n# SDF-EOH\n",
-        ],
-    )
+    let mut block = Block::new();
+    block.push(
+        b"# SDF\nparameter byteorder = 0x78563412;\nint cube_bits = 29;\nstruct {\n  \
+          int32_t x, y, z;\n  uint32_t mass;\n",
+    );
+    block.push(line_of(unsigned));
+    block.add("\n  int64_t vx, vy, vz;\n}[", count);
+    block.push(b"];\n# SDF-EOH\n");
+    block
 }
 
-/// Writes the row of a body with its ident and velocity.
-fn write_row<O: Sink>(out: &mut O, body: &Body, ident: i128, v: &[i128; 3]) -> Result<(), Failed>
-    requires unfailed { O.faults out.old ≡ 0 }
+/// Adds the row of a body with its ident and velocity.
+fn add_row(block: &mut Block, body: &Body, ident: i128, v: &[i128; 3])
+    requires room { length block.old + ROW ≤ BLOCK }
     requires ident { Is64Bits ident }
     requires slow { IsWritable (record { body = body.now; velocity = vector_of v.now }) }
-    ensures cause { FailsExactly (O.faults out.old) (O.faults out.new) result }
-    ensures text { Writes (O.written out.old) (O.written out.new) result
-        (row_text (record { body = body.now; velocity = vector_of v.now }) ident) }
+    ensures text { block.new ≡ block.old
+        ++ row_text (record { body = body.now; velocity = vector_of v.now }) ident }
 {
-    write_pieces(
-        out,
-        &[
-            &body.x.to_le_bytes(),
-            &body.y.to_le_bytes(),
-            &body.z.to_le_bytes(),
-            &body.mass.to_le_bytes(),
-            &bits(ident).to_le_bytes(),
-            &bits(v[0]).to_le_bytes(),
-            &bits(v[1]).to_le_bytes(),
-            &bits(v[2]).to_le_bytes(),
-        ],
-    )
+    block.push(&body.x.to_le_bytes());
+    block.push(&body.y.to_le_bytes());
+    block.push(&body.z.to_le_bytes());
+    block.push(&body.mass.to_le_bytes());
+    block.push(&bits(ident).to_le_bytes());
+    block.push(&bits(v[0]).to_le_bytes());
+    block.push(&bits(v[1]).to_le_bytes());
+    block.push(&bits(v[2]).to_le_bytes());
 }
 
-/// Writes the rows of all bodies, in their order.
-fn write_rows<O: Sink>(out: &mut O, state: &State, idents: &[i128]) -> Result<(), Failed>
+/// Puts the rows of all bodies, in their order.
+fn put_rows<O: Sink>(
+    block: &mut Block,
+    out: &mut O,
+    state: &State,
+    idents: &[i128],
+) -> Result<(), Failed>
     requires unfailed { O.faults out.old ≡ 0 }
     requires idents_too { length idents.now ≡ length state.now }
     requires named { All Is64Bits idents.now }
     requires slow { All IsWritable state.now }
     ensures cause { FailsExactly (O.faults out.old) (O.faults out.new) result }
-    ensures text { Writes (O.written out.old) (O.written out.new) result
+    ensures text { Puts (O.written out.old) block.old (O.written out.new) block.new result
         (rows_text state.now idents.now) }
 {
     for (i, ident) in idents.iter().enumerate() {
         let body = state.body(i).unwrap();
         let v = state.velocity(i).unwrap();
-        write_row(out, body, *ident, &v)?;
+        block.make_room(out, ROW)?;
+        add_row(block, body, *ident, &v);
     }
     Ok(())
 }
@@ -120,6 +117,7 @@ pub fn write_state<O: Sink>(
     ensures text { Writes (O.written out.old) (O.written out.new) result
         (state_text (record { unsigned = unsigned; state = state.now; idents = idents.now })) }
 {
-    write_header(out, unsigned, state.len())?;
-    write_rows(out, state, idents)
+    let mut block = header(unsigned, state.len());
+    put_rows(&mut block, out, state, idents)?;
+    block.finish(out)
 }

@@ -1,4 +1,4 @@
-use Rattle.std.proofs.Common.{List, ◌≡◌, ◌++◌, eqb, length, ap, sym, ◌∙◌, arith, append-nil}
+use Rattle.std.proofs.Common.{List, ◌≡◌, ◌++◌, eqb, ap, sym, ◌∙◌, arith, append-nil}
 use Rattle.std.proofs.lemmas.List.{take_all}
 use Rattle.std.proofs.lemmas.List.Filters.{dedup_is}
 use Rattle.branch_merge.specs.declared.listed.Listed.{Listed}

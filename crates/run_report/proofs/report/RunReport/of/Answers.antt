@@ -1,5 +1,4 @@
-use Rattle.std.proofs.Common.{◌≡◌, length, ap, sym, ◌∙◌, subst, arith, List, map, Contains, ◌↔◌, ℕ}
-use Rattle.std.specs.Prelude.{◌⊎◌}
+use Rattle.std.proofs.Common.{length, ap, ◌∙◌, arith}
 use Rattle.rank_set.proofs.Making.{shared_good}
 use Rattle.run_report.proofs.Reports.{efforts_few, report_is, counted_on}
 use Rattle.run_report.proofs.report.RunReport.of.Goals as goal
