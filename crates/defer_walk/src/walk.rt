@@ -295,13 +295,3 @@ impl<V: Visit> Walk<V> {
         })
     }
 }
-
-#[cfg(test)]
-impl<V: Visit> Walk<V> {
-    /// Whether no answer is stored for a key.
-    pub fn lacks(&self, key: u64) -> bool
-        ensures value { IsTrue result ↔ (answer_of self.now key ≡ None) }
-    {
-        self.asks.answer(key).is_none()
-    }
-}
