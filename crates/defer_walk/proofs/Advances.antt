@@ -1,10 +1,10 @@
 -- How an advance takes up the bodies that wait.
-use Rattle.std.proofs.Common.{ℕ, zero, suc, ◌≡◌, ◌<◌, ◌≤◌, Bool, true, false, List, [], ◌∷◌, ◌++◌, length, map, eqb, sym, refl, ap, ◌∙◌, subst, inl, arith, Option, Some, None, append_assoc}
+use Rattle.std.proofs.Common.{ℕ, zero, suc, ◌≡◌, ◌<◌, ◌≤◌, Bool, true, false, List, [], ◌∷◌, ◌++◌, length, eqb, sym, refl, ap, ◌∙◌, subst, inl, arith, Option, Some, None, append_assoc}
 use Rattle.std.specs.Prelude.{All, Contains, IsSome, slice_get, if◌then◌else◌}
 use Rattle.std.proofs.lemmas.Bool.{eqb-true, eq-eqb}
 use Rattle.std.proofs.lemmas.List.{append-nil, map-append}
 use Rattle.std.proofs.lemmas.List.Concat.{flat_map-append}
-use Rattle.std.proofs.lemmas.List.Elements.{All-append, All-nil, All-head, All-tail, All-cons, All-weaker, Contains-append_left, Contains-append_right}
+use Rattle.std.proofs.lemmas.List.Elements.{All-nil, All-head, All-tail, All-cons}
 use Rattle.hot_model.specs.Values.{BodyValue, CellValue}
 use Rattle.hot_model.specs.Keys.{height}
 use Rattle.hot_model.specs.Trees.{is_empty, child, cell_record}
@@ -32,10 +32,10 @@ use Rattle.defer_walk.specs.Tallies.{TallyValue, IsSameTally, noted}
 use Rattle.defer_walk.specs.Grouping.{group, by_children, AreOpened, opened_keys, listed_as, listed_of, all_listed, places_to}
 use Rattle.defer_walk.specs.Standing.{VisitOf, IsAsk, Waits, IsAwake, pair_in, pairs_in, roots}
 use Rattle.defer_walk.specs.Turning.{Beginning, ComesFrom, Keeps, Runs, IsLeafGroup}
-use Rattle.defer_walk.proofs.Slots.{stored_true, stored_extends, keys_extend}
+use Rattle.defer_walk.proofs.Slots.{stored_true, stored_extends}
 use Rattle.defer_walk.proofs.Noted.{one_has}
 use Rattle.defer_walk.proofs.Settles.{bodies_answer, children_answer, inner_settles}
-use Rattle.defer_walk.proofs.Keeping.{All-front, All-back, keeps_blocks, keeps_tally}
+use Rattle.defer_walk.proofs.Keeping.{All-front, All-back, keeps_tally}
 use Rattle.defer_walk.proofs.Turnings.{All-has, away_test, filter_short}
 use Rattle.defer_walk.proofs.Blocks.{parted}
 use Rattle.defer_walk.proofs.Descents.{group_keeps, runs_with, away_below}
@@ -93,22 +93,6 @@ stored_key (x ∷ xs) k a e = by_test (λ f. stored_key xs k a f) (eqb x.key k) 
     by_test more false f g = let r = more g in (r.0, tail_has x xs r.0 r.1, r.2)
 
 module _ {A : Type 0} (v : VisitOf A) (w : World) (me : ℕ) (start : Beginning) (bodies : List BodyValue) (swap : (b : BodyValue) → MaySwap (v.adds b)) where
-  -- bodies still wait
-  pub runs_still : (accs : List A) (tally : TallyValue) (slots : List Slot) (keep g waiting : List PairValue) → All (Waits v w me bodies slots) g → All (λ (q : PairValue). stored_at slots q.rec.key ≡ None) g → Runs v w me start bodies accs tally slots (keep ++ g) waiting → Runs v w me start bodies accs tally slots keep (waiting ++ g)
-  runs_still accs tally slots keep g waiting h n r = record {
-    keeps = subst (Keeps v w me bodies accs tally slots) (ap (λ (ps : List PairValue). waiting ++ (g ++ ps)) (append-nil keep) ∙ sym (append_assoc waiting g keep))
-        (keeps_blocks v w me bodies swap accs tally slots waiting keep g [] (subst (λ (ps : List PairValue). Keeps v w me bodies accs tally slots (waiting ++ (keep ++ ps))) (sym (append-nil g)) r.keeps));
-    asks = r.asks;
-    clear = r.clear;
-    waits = All-append (Waits v w me bodies slots) waiting g r.waits h;
-    absent = All-append (λ (q : PairValue). stored_at slots q.rec.key ≡ None) waiting g r.absent n;
-  }
-
-  -- all bodies that wait for a cell lack its answer
-  pub all_absent : (slots : List Slot) (key : ℕ) (whole : Bool) (bs : List ℕ) → stored_at slots key ≡ None → All (λ (q : PairValue). stored_at slots q.rec.key ≡ None) (pairs_in w (listed_as key whole bs))
-  all_absent slots key whole [] e = All-nil (λ (q : PairValue). stored_at slots q.rec.key ≡ None)
-  all_absent slots key whole (b ∷ bs) e = All-cons (λ (q : PairValue). stored_at slots q.rec.key ≡ None) (pair_in w (record { body = b; whole = whole; key = key })) (pairs_in w (listed_as key whole bs)) e (all_absent slots key whole bs e)
-
   -- a body that waits is opened or to be added whole
   pub are_opened : (slots : List Slot) (key : ℕ) (whole : Bool) (bs : List ℕ) → All (Waits v w me bodies slots) (pairs_in w (listed_as key whole bs)) → AreOpened v.opens bodies whole (cell_record w.bodies key) bs
   are_opened slots key whole [] h = All-nil (λ (i : ℕ). (b : BodyValue) → slice_get bodies i ≡ Some b → IsOpened (v.opens b) (pair_with i whole (cell_record w.bodies key)))
@@ -216,32 +200,27 @@ waits_of w P all ls ws more h e f k =
     let split = ap (pairs_in w) (listed_there all ls ws more h e f) ∙ map-append (pair_in w) (all_listed ws) (listed_of h ++ all_listed more) ∙ ap (λ (ps : List PairValue). pairs_in w (all_listed ws) ++ ps) (map-append (pair_in w) (listed_of h) (all_listed more)) in
     All-front P (pairs_in w (listed_of h)) (pairs_in w (all_listed more)) (All-back P (pairs_in w (all_listed ws)) (pairs_in w (listed_of h) ++ pairs_in w (all_listed more)) (subst (All P) split k))
 
--- the key of a cell for which a body waits is among those of the pairs
-pub key_there : (all ls ws more : List Held) (h : Held) → 0 < length h.bodies.items → all ≡ ls ++ more → ls ≡ ws ++ h ∷ [] → Contains (map (λ (x : Listed). x.key) (all_listed all)) h.key
-key_there all ls ws more h some e f =
-    let one = by_first h.key h.whole h.bodies.items some in
-    map_has (λ (x : Listed). x.key) (all_listed all) (record { body = one.0; whole = h.whole; key = h.key })
-    (subst (λ (xs : List Listed). Contains xs (record { body = one.0; whole = h.whole; key = h.key })) (sym (listed_there all ls ws more h e f))
-    (Contains-append_right (all_listed ws) (listed_of h ++ all_listed more) (record { body = one.0; whole = h.whole; key = h.key }) (Contains-append_left (listed_of h) (all_listed more) (record { body = one.0; whole = h.whole; key = h.key }) one.1)))
+-- what holds of the keys of all pairs holds of the key of a cell for which a body waits
+pub key_of_held : (P : ℕ → Type 0) (all ls ws more : List Held) (h : Held) → 0 < length h.bodies.items → all ≡ ls ++ more → ls ≡ ws ++ h ∷ [] → All (λ p. P p.key) (all_listed all) → P h.key
+key_of_held P all ls ws more h some e f k =
+    let split = subst (All (λ (p : Listed). P p.key)) (listed_there all ls ws more h e f) k in
+    by_first h.key h.whole h.bodies.items some (All-front (λ (p : Listed). P p.key) (listed_of h) (all_listed more) (All-back (λ (p : Listed). P p.key) (all_listed ws) (listed_of h ++ all_listed more) split))
   where
-    by_first : (key : ℕ) (whole : Bool) (bs : List ℕ) → 0 < length bs → (b : ℕ) × Contains (listed_as key whole bs) (record { body = b; whole = whole; key = key })
-    by_first key whole [] s = absurd (omega arith)
-    by_first key whole (b ∷ bs) s = (b, head_has (record { body = b; whole = whole; key = key }) (listed_as key whole bs))
+    by_first : (key : ℕ) (whole : Bool) (bs : List ℕ) → 0 < length bs → All (λ p. P p.key) (listed_as key whole bs) → P key
+    by_first key whole [] s a = absurd (omega arith)
+    by_first key whole (b ∷ bs) s a = All-head (λ (p : Listed). P p.key) (record { body = b; whole = whole; key = key }) (listed_as key whole bs) a
 
--- bodies that waited at the start wait still
-pub still_waits : {A : Type 0} (v : VisitOf A) (w : World) (me : ℕ) (start : Beginning) (bodies : List BodyValue) (accs : List A) (tally : TallyValue) (slots : List Slot) (rest waiting g : List PairValue) → Runs v w me start bodies accs tally slots rest waiting → All (Waits v w me bodies start.slots) g → All (Waits v w me bodies slots) g
-still_waits v w me start bodies accs tally slots rest waiting g r h =
+-- a cell that is awake has its answer
+pub awake_stored : {A : Type 0} (v : VisitOf A) (w : World) (me : ℕ) (start : Beginning) (bodies : List BodyValue) (accs : List A) (tally : TallyValue) (slots : List Slot) (rest waiting : List PairValue) → Runs v w me start bodies accs tally slots rest waiting
+    → (key : ℕ) → IsAwake start.slots start.pairs key → stored_at slots key ≡ None → ⊥
+awake_stored v w me start bodies accs tally slots rest waiting r key awake none =
     let x : Extends start.slots slots = record { more = r.asks.more; new_is = r.asks.slots_are; unanswered = r.asks.unanswered } in
-    All-weaker (Waits v w me bodies start.slots) (Waits v w me bodies slots) (λ q k. record { opened = k.opened; away = k.away; asked = keys_extend start.slots slots q.rec.key x k.asked }) g h
-
--- a cell with bodies that wait is awake once its answer is there
-pub was_awake : {A : Type 0} (v : VisitOf A) (w : World) (me : ℕ) (start : Beginning) (bodies : List BodyValue) (accs : List A) (tally : TallyValue) (slots : List Slot) (rest waiting : List PairValue) → Runs v w me start bodies accs tally slots rest waiting
-    → (all ls ws more : List Held) (h : Held) (answer : Answer) → start.pairs ≡ all_listed all → 0 < length h.bodies.items → all ≡ ls ++ more → ls ≡ ws ++ h ∷ [] → stored_at slots h.key ≡ Some answer → IsAwake start.slots start.pairs h.key
-was_awake v w me start bodies accs tally slots rest waiting r all ls ws more h answer same some e f got =
-    let x : Extends start.slots slots = record { more = r.asks.more; new_is = r.asks.slots_are; unanswered = r.asks.unanswered } in (
-      subst (λ (ps : List Listed). Contains (map (λ (y : Listed). y.key) ps) h.key) (sym same) (key_there all ls ws more h some e f),
-      subst (λ (o : Option Answer). IsSome o) (sym (sym (stored_extends start.slots slots h.key x) ∙ got)) refl,
-    )
+    let f : IsSome (stored_at start.slots key) = awake.1 in
+    by_answer (stored_at start.slots key) (sym (stored_extends start.slots slots key x) ∙ none) f
+  where
+    by_answer : (o : Option Answer) → o ≡ None → IsSome o → ⊥
+    by_answer None e f = absurd (let g : false ≡ true = f in cc)
+    by_answer (Some a) e f = absurd (cc)
 
 -- whether any body waits
 pub some_items : (bs : List ℕ) → eqb (length bs) 0 ≡ false → 0 < length bs

@@ -26,12 +26,11 @@ use Rattle.hot_model.proofs.Steps.{record_some, outer_own}
 use Rattle.hot_model.proofs.Walks.{some_length}
 use Rattle.defer_walk.specs.declared.asks.Slot.{Slot}
 use Rattle.defer_walk.specs.declared.listed.Listed.{Listed}
-use Rattle.defer_walk.specs.declared.held.Held.{Held}
 use Rattle.defer_walk.specs.Asked.{asked_keys, stored_at, Grows, Extends}
 use Rattle.defer_walk.specs.Settling.{IsOpened, IsChildOf, IsParted}
 use Rattle.defer_walk.specs.Tallies.{TallyValue, IsSameTally, noted}
-use Rattle.defer_walk.specs.Grouping.{group, by_children, AreOpened, opened_keys, listed_as, all_listed}
-use Rattle.defer_walk.specs.Standing.{VisitOf, asked_by, IsAsk, AreStored, Waits, IsAwake, IsNewAsk, pair_in, pairs_in}
+use Rattle.defer_walk.specs.Grouping.{group, by_children, AreOpened, opened_keys, listed_as}
+use Rattle.defer_walk.specs.Standing.{VisitOf, asked_by, IsAsk, AreStored, Waits, IsAwake, IsNewAsk, pairs_in}
 use Rattle.defer_walk.specs.Turning.{Beginning, ComesFrom, IsClear, Keeps, Runs, IsLeafGroup}
 use Rattle.defer_walk.proofs.Slots.{has_key, stored_none, stored_more, stored_extends, keys_extend, grows_extends}
 use Rattle.defer_walk.proofs.Settles.{pair_full, waiting_asks, inner_settles, spread_settles, get_some}
@@ -274,10 +273,6 @@ module _ {A : Type 0} (v : VisitOf A) (w : World) (me : ℕ) (start : Beginning)
                     let e = All-has (λ (s : Slot). (s.owner ≡ owner) × (s.key ≡ rec.key) × (s.answer ≡ None)) g.more m.0 g.each m.1 in
                     inr (wanted.0, wanted.1, subst (Contains (asked_by v w me wanted.0)) (sym (m.2 ∙ e.1)) wanted.2)
               ]
-
--- the lists of those that wait
-pub held_more : (w : World) (old new : List Held) (key : ℕ) (whole : Bool) (rec : CellValue) (bs : List ℕ) → record_in w rec.key ≡ Some rec → key ≡ rec.key → all_listed new ≡ all_listed old ++ listed_as key whole bs → pairs_in w (all_listed new) ≡ pairs_in w (all_listed old) ++ group whole rec bs
-held_more w old new key whole rec bs r e f = ap (pairs_in w) f ∙ map-append (pair_in w) (all_listed old) (listed_as key whole bs) ∙ ap (λ (ps : List PairValue). pairs_in w (all_listed old) ++ ps) (pairs_held w whole rec key r e bs)
 
 -- the first children
 abbrev pub records_to : World → ℕ → ℕ → List CellValue

@@ -14,8 +14,6 @@ use Rattle.defer_walk.specs.declared.asks.Slot.{Slot}
 use Rattle.defer_walk.specs.declared.progress.Progress.{Progress}
 use Rattle.defer_walk.specs.declared.progress.Progress.TheVariants.{Done, Waiting}
 use Rattle.defer_walk.specs.declared.listed.Listed.{Listed}
-use Rattle.defer_walk.specs.declared.held.Held.{Held}
-use Rattle.defer_walk.specs.Grouping.{all_listed}
 use Rattle.defer_walk.specs.Asked.{asked_keys, stored_at}
 use Rattle.defer_walk.specs.Settling.{IsOpened}
 use Rattle.defer_walk.specs.Tallies.{TallyValue}
@@ -141,8 +139,8 @@ roots zero = []
 roots (suc n) = roots n ++ (record { body = n; whole = false; key = 1 }) ∷ []
 
 -- the pairs that are left: before the first advance all bodies with the root, and later those that wait
-abbrev pub left_by : Bool → ℕ → List Held → List Listed
-left_by advanced n held = if advanced then all_listed held else roots n
+abbrev pub left_by : Bool → ℕ → List Listed → List Listed
+left_by advanced n waiting = if advanced then waiting else roots n
 
 -- nothing was done yet
 pub record IsFresh {V A : Type 0} (nothing : A) (s : WalkState V A) : Type 0 where

@@ -1,5 +1,5 @@
-ghost use Rattle.std.specs.Prelude.{◌≡◌, ℕ, ◌+◌, ◌-◌, ◌<◌, ◌≤◌, ◌^◌, Bool, false, true, List, []};
-ghost use Rattle.std.specs.Prelude.{◌∷◌, ◌++◌, Some, IfOk, OnOk, length, All};
+ghost use Rattle.std.specs.Prelude.{◌≡◌, ◌≢◌, ℕ, ◌+◌, ◌-◌, ◌<◌, ◌≤◌, ◌^◌, Bool, false, true, List};
+ghost use Rattle.std.specs.Prelude.{[], ◌∷◌, ◌++◌, Some, IfOk, OnOk, length, All, Contains, vec_capacity};
 ghost use Rattle.hot_model.specs.Limits.{max_all_mass};
 ghost use Rattle.hot_model.specs.World.{World, IsGood, record_in, piece as piece_of};
 ghost use Rattle.hot_model.specs.Answers.{true_answer};
@@ -10,11 +10,12 @@ ghost use Rattle.defer_walk.specs.Grouping.{group, by_children, AreOpened, liste
 ghost use Rattle.defer_walk.specs.Standing.{meaning, AreStored, Waits, IsAwake, pairs_in, roots};
 ghost use Rattle.defer_walk.specs.Standing.{left_by};
 ghost use Rattle.defer_walk.specs.Turning.{Beginning, ComesFrom, Runs, AreReady};
+ghost use Rattle.defer_walk.specs.Waiting.{Takes, AreWoken};
 
 use crate::asks::Asks;
 use crate::cells::Cells;
 use crate::groups::{descend, descend_all, near_group, note_all};
-use crate::held::{Held, count_held, list_places};
+use crate::held::{Held, list_places};
 use crate::tally::Tally;
 use hot_model::{Answer, Body, CellRec, Seen, Visit};
 use std::alloc::{AllocError, Global};
@@ -33,30 +34,30 @@ pub fn begin<V: Visit, C: Cells>(
     accs: &mut [V::Acc],
     tally: &mut Tally,
     asks: &mut Asks,
-    held: &mut Vec<Held>,
 ) -> Result<(), AllocError>
     requires fits { (w : World) × (me : ℕ) × (start : Beginning) × C.stands cells.now w me
         × IsGood w × (piece.now ≡ piece_of w me)
         × Runs (meaning V.zero_of V.adds V.opens_by V.Acc.seen_of visit.now) w me start piece.now
-        accs.old tally.old asks.old (pairs_in w (roots (length piece.now)))
-        (pairs_in w (all_listed held.old.items)) × (start.advanced ≡ false)
+        accs.old tally.old asks.old.slots (pairs_in w (roots (length piece.now)))
+        (pairs_in w asks.old.pairs) × (start.advanced ≡ false)
         × (record_in w 1 ≡ Some root) }
     ensures stored { (w : World) (me : ℕ) (start : Beginning) → C.stands cells.now w me → IsGood w
         → piece.now ≡ piece_of w me → (start.advanced ≡ false) → (record_in w 1 ≡ Some root)
         → Runs (meaning V.zero_of V.adds V.opens_by V.Acc.seen_of visit.now) w me start piece.now
-        accs.old tally.old asks.old (pairs_in w (roots (length piece.now)))
-        (pairs_in w (all_listed held.old.items))
-        → AreStored (meaning V.zero_of V.adds V.opens_by V.Acc.seen_of visit.now) w me asks.new }
-    ensures extends { Extends asks.old asks.new }
+        accs.old tally.old asks.old.slots (pairs_in w (roots (length piece.now)))
+        (pairs_in w asks.old.pairs)
+        → AreStored (meaning V.zero_of V.adds V.opens_by V.Acc.seen_of visit.now) w me
+        asks.new.slots }
+    ensures extends { Extends asks.old.slots asks.new.slots }
     ensures runs { OnOk result
         ((w : World) (me : ℕ) (start : Beginning) → C.stands cells.now w me → IsGood w
         → piece.now ≡ piece_of w me → (start.advanced ≡ false) → (record_in w 1 ≡ Some root)
         → Runs (meaning V.zero_of V.adds V.opens_by V.Acc.seen_of visit.now) w me start
-        piece.now accs.old tally.old asks.old (pairs_in w (roots (length piece.now)))
-        (pairs_in w (all_listed held.old.items))
+        piece.now accs.old tally.old asks.old.slots (pairs_in w (roots (length piece.now)))
+        (pairs_in w asks.old.pairs)
         → Runs (meaning V.zero_of V.adds V.opens_by V.Acc.seen_of visit.now) w me start
-        piece.now accs.new tally.new asks.new []
-        (pairs_in w (all_listed held.new.items))) }
+        piece.now accs.new tally.new asks.new.slots []
+        (pairs_in w asks.new.pairs)) }
 {
     let mut leaf = Vec::new(alloc);
     let mut to = piece.len() as u32;
@@ -71,7 +72,6 @@ pub fn begin<V: Visit, C: Cells>(
             accs,
             tally,
             asks,
-            held,
             &mut leaf,
             &mut places,
             0,
@@ -139,7 +139,22 @@ fn wake<V: Visit>(
     }
 }
 
-/// A later advance: the bodies whose cell was answered go on, and the others still wait.
+/// Takes out the bodies that wait for the cells of these keys.
+fn take_woken(alloc: Global, asks: &mut Asks, woken: &[u64]) -> Result<Vec<Held>, AllocError>
+    ensures slots { asks.new.slots ≡ asks.old.slots }
+    ensures taken { IfOk result (λ waits. All (λ h. Contains woken.now h.key) waits.items
+        × Takes waits.items asks.old.pairs asks.new.pairs) }
+    ensures none { OnOk result
+        ((key : ℕ) → Contains woken.now key → All (λ p. p.key ≢ key) asks.new.pairs) }
+{
+    let mut waits = Vec::new(alloc);
+    for key in woken {
+        asks.take(alloc, *key, &mut waits)?;
+    }
+    Ok(waits)
+}
+
+/// A later advance: the bodies whose cell was answered go on.
 pub fn resume<V: Visit, C: Cells>(
     alloc: Global,
     visit: &V,
@@ -149,41 +164,41 @@ pub fn resume<V: Visit, C: Cells>(
     tally: &mut Tally,
     asks: &mut Asks,
     waits: &mut Vec<Held>,
-    held: &mut Vec<Held>,
 ) -> Result<(), AllocError>
     requires fits { (w : World) × (me : ℕ) × (start : Beginning) × C.stands cells.now w me
         × IsGood w × (piece.now ≡ piece_of w me)
         × Runs (meaning V.zero_of V.adds V.opens_by V.Acc.seen_of visit.now) w me start piece.now
-        accs.old tally.old asks.old (pairs_in w (all_listed waits.old.items))
-        (pairs_in w (all_listed held.old.items)) × (start.advanced ≡ true)
-        × (start.pairs ≡ all_listed waits.old.items)
+        accs.old tally.old asks.old.slots (pairs_in w (all_listed waits.old.items))
+        (pairs_in w asks.old.pairs) × (start.advanced ≡ true)
+        × All (λ p. IsAwake start.slots start.pairs p.key) (all_listed waits.old.items)
         × All
         (Waits (meaning V.zero_of V.adds V.opens_by V.Acc.seen_of visit.now) w me piece.now
         start.slots) (pairs_in w (all_listed waits.old.items)) }
     ensures stored { (w : World) (me : ℕ) (start : Beginning) → C.stands cells.now w me → IsGood w
         → piece.now ≡ piece_of w me → (start.advanced ≡ true)
-        → (start.pairs ≡ all_listed waits.old.items)
+        → All (λ p. IsAwake start.slots start.pairs p.key) (all_listed waits.old.items)
         → All
         (Waits (meaning V.zero_of V.adds V.opens_by V.Acc.seen_of visit.now) w me piece.now
         start.slots) (pairs_in w (all_listed waits.old.items))
         → Runs (meaning V.zero_of V.adds V.opens_by V.Acc.seen_of visit.now) w me start piece.now
-        accs.old tally.old asks.old (pairs_in w (all_listed waits.old.items))
-        (pairs_in w (all_listed held.old.items))
-        → AreStored (meaning V.zero_of V.adds V.opens_by V.Acc.seen_of visit.now) w me asks.new }
-    ensures extends { Extends asks.old asks.new }
+        accs.old tally.old asks.old.slots (pairs_in w (all_listed waits.old.items))
+        (pairs_in w asks.old.pairs)
+        → AreStored (meaning V.zero_of V.adds V.opens_by V.Acc.seen_of visit.now) w me
+        asks.new.slots }
+    ensures extends { Extends asks.old.slots asks.new.slots }
     ensures runs { OnOk result
         ((w : World) (me : ℕ) (start : Beginning) → C.stands cells.now w me → IsGood w
         → piece.now ≡ piece_of w me → (start.advanced ≡ true)
-        → (start.pairs ≡ all_listed waits.old.items)
+        → All (λ p. IsAwake start.slots start.pairs p.key) (all_listed waits.old.items)
         → All
         (Waits (meaning V.zero_of V.adds V.opens_by V.Acc.seen_of visit.now) w me piece.now
         start.slots) (pairs_in w (all_listed waits.old.items))
         → Runs (meaning V.zero_of V.adds V.opens_by V.Acc.seen_of visit.now) w me start
-        piece.now accs.old tally.old asks.old (pairs_in w (all_listed waits.old.items))
-        (pairs_in w (all_listed held.old.items))
+        piece.now accs.old tally.old asks.old.slots (pairs_in w (all_listed waits.old.items))
+        (pairs_in w asks.old.pairs)
         → Runs (meaning V.zero_of V.adds V.opens_by V.Acc.seen_of visit.now) w me start
-        piece.now accs.new tally.new asks.new []
-        (pairs_in w (all_listed held.new.items))) }
+        piece.now accs.new tally.new asks.new.slots []
+        (pairs_in w asks.new.pairs)) }
 {
     let mut leaf = Vec::new(alloc);
     let mut recs = Vec::new(alloc);
@@ -192,33 +207,42 @@ pub fn resume<V: Visit, C: Cells>(
         if waits_here.bodies.is_empty() {
             continue;
         }
-        match asks.answer(waits_here.key) {
-            None => held.push(waits_here)?,
-            Some(answer) => {
-                wake(visit, piece, accs, tally, &waits_here, answer, &mut recs)?;
-                places.clear();
-                places.extend_from_slice(waits_here.bodies.as_slice())?;
-                descend_all(
-                    alloc,
-                    visit,
-                    cells,
-                    piece,
-                    accs,
-                    tally,
-                    asks,
-                    held,
-                    &mut leaf,
-                    &mut places,
-                    &mut recs,
-                )?;
-            }
-        }
+        let Some(answer) = asks.answer(waits_here.key) else {
+            continue;
+        };
+        wake(visit, piece, accs, tally, &waits_here, answer, &mut recs)?;
+        places.clear();
+        places.extend_from_slice(waits_here.bodies.as_slice())?;
+        descend_all(
+            alloc,
+            visit,
+            cells,
+            piece,
+            accs,
+            tally,
+            asks,
+            &mut leaf,
+            &mut places,
+            &mut recs,
+        )?;
     }
     Ok(())
 }
 
-/// An advance: the first one from the root, later ones from the bodies that wait. It answers how
-/// many pairs wait then.
+/// How many pairs wait after an advance. No cell has woken since, and there is room for each that
+/// may.
+fn end(asks: &Asks, woken: &mut Vec<u64>) -> Result<u64, AllocError>
+    ensures count { IfOk result (λ n. n ≡ length asks.now.pairs) }
+    ensures none { OnOk result (woken.new.items ≡ []) }
+    ensures room { OnOk result (length asks.now.slots ≤ vec_capacity woken.new) }
+{
+    woken.clear();
+    woken.reserve(asks.len())?;
+    Ok(asks.left())
+}
+
+/// An advance: the first one from the root, later ones from the bodies that wait for the cells of
+/// these keys. It answers how many pairs wait then.
 pub fn go_on<V: Visit, C: Cells>(
     alloc: Global,
     advanced: bool,
@@ -228,52 +252,54 @@ pub fn go_on<V: Visit, C: Cells>(
     accs: &mut [V::Acc],
     tally: &mut Tally,
     asks: &mut Asks,
-    waits: &mut Vec<Held>,
-    held: &mut Vec<Held>,
+    woken: &mut Vec<u64>,
 ) -> Result<u64, AllocError>
+    requires idle { advanced ≡ false → asks.old.pairs ≡ [] }
+    requires woken { advanced ≡ true → AreWoken woken.old.items asks.old.slots asks.old.pairs }
     requires fits { (w : World) × (me : ℕ) × (start : Beginning) × C.stands cells.now w me
         × IsGood w × (piece.now ≡ piece_of w me)
         × Runs (meaning V.zero_of V.adds V.opens_by V.Acc.seen_of visit.now) w me start piece.now
-        accs.old tally.old asks.old
-        (pairs_in w (left_by advanced (length piece.now) waits.old.items))
-        (pairs_in w (all_listed held.old.items)) × (start.advanced ≡ advanced)
-        × (start.pairs ≡ left_by advanced (length piece.now) waits.old.items)
+        accs.old tally.old asks.old.slots
+        (pairs_in w (left_by advanced (length piece.now) asks.old.pairs)) []
+        × (start.advanced ≡ advanced)
+        × (start.pairs ≡ left_by advanced (length piece.now) asks.old.pairs)
         × AreReady advanced (meaning V.zero_of V.adds V.opens_by V.Acc.seen_of visit.now) w me
-        piece.now start.slots (left_by advanced (length piece.now) waits.old.items) }
+        piece.now start.slots (left_by advanced (length piece.now) asks.old.pairs) }
     ensures stored { (w : World) (me : ℕ) (start : Beginning) → C.stands cells.now w me → IsGood w
         → piece.now ≡ piece_of w me → start.advanced ≡ advanced
-        → start.pairs ≡ left_by advanced (length piece.now) waits.old.items
+        → start.pairs ≡ left_by advanced (length piece.now) asks.old.pairs
         → AreReady advanced (meaning V.zero_of V.adds V.opens_by V.Acc.seen_of visit.now) w me
-        piece.now start.slots (left_by advanced (length piece.now) waits.old.items)
+        piece.now start.slots (left_by advanced (length piece.now) asks.old.pairs)
         → Runs (meaning V.zero_of V.adds V.opens_by V.Acc.seen_of visit.now) w me start piece.now
-        accs.old tally.old asks.old
-        (pairs_in w (left_by advanced (length piece.now) waits.old.items))
-        (pairs_in w (all_listed held.old.items))
-        → AreStored (meaning V.zero_of V.adds V.opens_by V.Acc.seen_of visit.now) w me asks.new }
-    ensures extends { Extends asks.old asks.new }
+        accs.old tally.old asks.old.slots
+        (pairs_in w (left_by advanced (length piece.now) asks.old.pairs)) []
+        → AreStored (meaning V.zero_of V.adds V.opens_by V.Acc.seen_of visit.now) w me
+        asks.new.slots }
+    ensures extends { Extends asks.old.slots asks.new.slots }
     ensures runs { OnOk result
         ((w : World) (me : ℕ) (start : Beginning) → C.stands cells.now w me → IsGood w
         → piece.now ≡ piece_of w me → start.advanced ≡ advanced
-        → start.pairs ≡ left_by advanced (length piece.now) waits.old.items
+        → start.pairs ≡ left_by advanced (length piece.now) asks.old.pairs
         → AreReady advanced (meaning V.zero_of V.adds V.opens_by V.Acc.seen_of visit.now) w me
-        piece.now start.slots (left_by advanced (length piece.now) waits.old.items)
+        piece.now start.slots (left_by advanced (length piece.now) asks.old.pairs)
         → Runs (meaning V.zero_of V.adds V.opens_by V.Acc.seen_of visit.now) w me start
-        piece.now accs.old tally.old asks.old
-        (pairs_in w (left_by advanced (length piece.now) waits.old.items))
-        (pairs_in w (all_listed held.old.items))
+        piece.now accs.old tally.old asks.old.slots
+        (pairs_in w (left_by advanced (length piece.now) asks.old.pairs)) []
         → Runs (meaning V.zero_of V.adds V.opens_by V.Acc.seen_of visit.now) w me start
-        piece.now accs.new tally.new asks.new []
-        (pairs_in w (all_listed held.new.items))) }
-    ensures count { IfOk result (λ n. n ≡ length (all_listed held.new.items)) }
+        piece.now accs.new tally.new asks.new.slots [] (pairs_in w asks.new.pairs)) }
+    ensures count { IfOk result (λ n. n ≡ length asks.new.pairs) }
+    ensures none { OnOk result (woken.new.items ≡ []) }
+    ensures room { OnOk result (length asks.new.slots ≤ vec_capacity woken.new) }
 {
     if advanced {
-        resume(alloc, visit, cells, piece, accs, tally, asks, waits, held)?;
-        return count_held(held);
+        let mut waits = take_woken(alloc, asks, woken)?;
+        resume(alloc, visit, cells, piece, accs, tally, asks, &mut waits)?;
+        return end(asks, woken);
     }
     if let Some(root) = cells.root() {
-        begin(alloc, visit, cells, root, piece, accs, tally, asks, held)?;
+        begin(alloc, visit, cells, root, piece, accs, tally, asks)?;
     }
-    count_held(held)
+    end(asks, woken)
 }
 
 /// As many empty accumulators.

@@ -15,7 +15,6 @@ ghost use Rattle.defer_walk.specs.Standing.{fold_in, opened_by, pairs_in};
 
 use crate::asks::Asks;
 use crate::cells::Cells;
-use crate::held::Held;
 use crate::progress::{Ask, Progress, WalkResult, progress_of};
 use crate::stages::{go_on, nothing_added};
 use crate::tally::Tally;
@@ -23,8 +22,9 @@ use hot_model::{Answered, Body, Visit};
 use std::alloc::{AllocError, Global};
 use std::marker::Model;
 
-/// The walk of one rank's piece through the tree of all bodies. Where no answer came since the last
-/// advance, all pairs that are left still wait, and an advance looks at none of them.
+/// The walk of one rank's piece through the tree of all bodies. After an advance all pairs that are
+/// left wait, and of these the next one looks only at those whose cell has woken since: its answer
+/// came.
 #[derive(Drop)]
 pub struct Walk<V: Visit> {
     alloc: Global,
@@ -32,20 +32,20 @@ pub struct Walk<V: Visit> {
     visit: V,
     piece: Vec<Body>,
     accs: Vec<V::Acc>,
-    held: Vec<Held>,
     left: u64,
     asks: Asks,
+    woken: Vec<u64>,
     given: usize,
     tally: Tally,
     started: bool,
     advanced: bool,
-    all_wait: bool,
     starved: bool,
 }
 
 impl<V: Visit> Model for Walk<V> {
-    ghost use Rattle.std.specs.Prelude.{◌≡◌, ◌≤◌, true, false, length};
-    ghost use Rattle.defer_walk.specs.Standing.{WalkState, left_by, AreUnanswered};
+    ghost use Rattle.std.specs.Prelude.{◌≡◌, ◌≤◌, ◌+◌, true, false, [], length, vec_capacity};
+    ghost use Rattle.defer_walk.specs.Standing.{WalkState, left_by};
+    ghost use Rattle.defer_walk.specs.Waiting.{unanswered_cells, AreWoken};
 
     ghost Value = { WalkState V V.Acc };
 
@@ -54,8 +54,8 @@ impl<V: Visit> Model for Walk<V> {
       visit = p.visit;
       piece = p.piece.items;
       accs = p.accs.items;
-      pairs = left_by p.advanced (length p.piece.items) p.held.items;
-      slots = p.asks;
+      pairs = left_by p.advanced (length p.piece.items) p.asks.pairs;
+      slots = p.asks.slots;
       given = p.given;
       tally = p.tally;
       started = p.started;
@@ -63,12 +63,12 @@ impl<V: Visit> Model for Walk<V> {
       starved = p.starved;
     } };
 
-    ghost invariant = { λ p. (p.given ≤ length p.asks)
+    ghost invariant = { λ p. (p.given ≤ length p.asks.slots)
         × (p.starved ≡ false
-        → p.left ≡ length (left_by p.advanced (length p.piece.items) p.held.items))
-        × (p.all_wait ≡ true
-        → (p.advanced ≡ true)
-        × AreUnanswered p.asks (left_by p.advanced (length p.piece.items) p.held.items)) };
+        → (p.left ≡ length (left_by p.advanced (length p.piece.items) p.asks.pairs))
+        × (unanswered_cells p.asks.slots + length p.woken.items ≤ vec_capacity p.woken)
+        × (p.advanced ≡ true → AreWoken p.woken.items p.asks.slots p.asks.pairs)
+        × (p.advanced ≡ false → p.asks.pairs ≡ [])) };
 }
 
 impl<V: Visit> Walk<V> {
@@ -90,14 +90,13 @@ impl<V: Visit> Walk<V> {
             visit,
             piece: piece.to_vec(alloc)?,
             accs,
-            held: Vec::new(alloc),
             left: 0,
             asks: Asks::new(alloc, piece.len())?,
+            woken: Vec::new(alloc),
             given: 0,
             tally: Tally::new(alloc),
             started: false,
             advanced: true,
-            all_wait: false,
             starved: false,
         })
     }
@@ -125,7 +124,6 @@ impl<V: Visit> Walk<V> {
         }
         self.started = true;
         self.advanced = false;
-        self.all_wait = false;
         self.left = self.piece.len() as u64;
         Ok(())
     }
@@ -166,10 +164,9 @@ impl<V: Visit> Walk<V> {
         if self.starved {
             return Err(AllocError);
         }
-        if self.all_wait {
+        if self.advanced && self.woken.is_empty() {
             return Ok(progress_of(self.left));
         }
-        let mut held = Vec::new(self.alloc);
         let worked = go_on(
             self.alloc,
             self.advanced,
@@ -179,8 +176,7 @@ impl<V: Visit> Walk<V> {
             &mut self.accs,
             &mut self.tally,
             &mut self.asks,
-            &mut self.held,
-            &mut held,
+            &mut self.woken,
         );
         match worked {
             Err(e) => {
@@ -188,10 +184,8 @@ impl<V: Visit> Walk<V> {
                 Err(e)
             }
             Ok(left) => {
-                self.held = held;
                 self.left = left;
                 self.advanced = true;
-                self.all_wait = true;
                 Ok(progress_of(left))
             }
         }
@@ -244,7 +238,7 @@ impl<V: Visit> Walk<V> {
         ensures given { given_of self.new ≡ given_of self.old }
     {
         let Answered { key, answer } = item;
-        self.all_wait = false;
+        let _ = self.woken.push(key);
         self.asks.fill(key, answer);
     }
 
@@ -293,15 +287,5 @@ impl<V: Visit> Walk<V> {
             asks: self.asks.len() as u64,
             cells,
         })
-    }
-}
-
-#[cfg(test)]
-impl<V: Visit> Walk<V> {
-    /// Whether no answer is stored for a key.
-    pub fn lacks(&self, key: u64) -> bool
-        ensures value { IsTrue result ↔ (answer_of self.now key ≡ None) }
-    {
-        self.asks.answer(key).is_none()
     }
 }
