@@ -2,7 +2,7 @@
 use Rattle.std.proofs.Common.{◌≡◌, ℕ, ◌+◌, ◌-◌, ◌≤◌, ◌<◌, Bool, true, false, List, [], ◌++◌, length, take, drop, Option, Some, None, Result, Ok, Err, refl, sym, ap, ◌∙◌, arith, append_assoc, append-nil, length-append}
 use Rattle.std.proofs.Math.Seq.{drop-append_seam}
 use Rattle.std.proofs.lemmas.List.{take-append-drop}
-use Rattle.hot_model.specs.Limits.{max_header_bytes}
+use Rattle.hot_units.specs.Limits.{max_header_bytes}
 use Rattle.sdf_header.specs.declared.header_fault.HeaderFault.{HeaderFault}
 use Rattle.sdf_header.specs.declared.reader.Fed.{Fed}
 use Rattle.sdf_header.specs.declared.reader.Fed.TheVariants.{More, Ended}

@@ -3,10 +3,10 @@ use Rattle.std.proofs.Common.{◌≡◌, ℕ, suc, ◌+◌, ◌-◌, ◌*◌, �
 use Rattle.std.proofs.Math.Nat.{min-eq_left, mul-le-mul_right, mul-le-mul_left}
 use Rattle.std.proofs.lemmas.Bool.{ltb-true, ltb-false, leb-true, cases_Bool}
 use Rattle.std.specs.Prelude.{nat_lt, if◌then◌else◌}
-use Rattle.hot_model.specs.Limits.{max_bodies, max_row_bytes}
-use Rattle.hot_model.specs.Values.{CubeValue}
+use Rattle.hot_units.specs.Limits.{max_bodies, max_row_bytes}
+use Rattle.hot_units.specs.Values.{CubeValue}
 use Rattle.sdf_header.specs.Layouts.{LayoutValue}
-use Rattle.sdf_rows.specs.declared.raw_row.RawRow.{RawRow}
+use Rattle.hot_units.specs.declared.raw_row.RawRow.{RawRow}
 use Rattle.sdf_rows.specs.Rows.{rows, rows_in, row_number, at_most, is_beyond_at}
 use Rattle.sdf_rows.specs.Reading.{RowsValue, is_full_at, is_full, part_behind, reader_behind, IsBehind}
 use Rattle.sdf_rows.proofs.Places.{rows_lie, rows_there, part_short}

@@ -2,9 +2,9 @@
 use Rattle.std.proofs.Common.{◌≡◌, ℕ, zero, suc, ◌+◌, ◌-◌, ◌*◌, ◌/◌, ◌≤◌, ◌<◌, Bool, true, false, List, [], ◌∷◌, ◌++◌, length, Option, Some, None, Ok, Err, refl, sym, ap, ◌∙◌, arith, length-append, append-nil, append_assoc, subst}
 use Rattle.std.proofs.Math.Nat.{min-eq_left}
 use Rattle.std.proofs.lemmas.Bool.{ltb-true, leb-true, leb-false}
-use Rattle.hot_model.specs.Values.{CubeValue}
+use Rattle.hot_units.specs.Values.{CubeValue}
 use Rattle.sdf_header.specs.Layouts.{LayoutValue}
-use Rattle.sdf_rows.specs.declared.raw_row.RawRow.{RawRow}
+use Rattle.hot_units.specs.declared.raw_row.RawRow.{RawRow}
 use Rattle.sdf_rows.specs.Rows.{row_at, first_rows, rows, rows_in, at_most, ending, is_beyond_at, is_cut_at}
 use Rattle.sdf_rows.specs.Reading.{is_full_at, is_full}
 use Rattle.sdf_rows.proofs.Places.{rows_lie, more_rows}

@@ -2,9 +2,9 @@
 use Rattle.std.proofs.Common.{◌≡◌, ℕ, ◌+◌, ◌-◌, ◌*◌, ◌/◌, ◌≤◌, ◌<◌, ◌⊎◌, inl, inr, Bool, true, false, List, [], ◌∷◌, ◌++◌, length, take, drop, min, Option, Some, None, Result, Ok, Err, refl, sym, ap, ◌∙◌, arith, nat_lt, if◌then◌else◌, length-append, length-take, append_assoc, append-nil, subst, All}
 use Rattle.std.proofs.lemmas.List.{take-append-drop}
 use Rattle.std.proofs.lemmas.Bool.{cases_Bool, ltb-true}
-use Rattle.hot_model.specs.Values.{CubeValue}
+use Rattle.hot_units.specs.Values.{CubeValue}
 use Rattle.sdf_header.specs.Layouts.{LayoutValue, IsLayout}
-use Rattle.sdf_rows.specs.declared.raw_row.RawRow.{RawRow}
+use Rattle.hot_units.specs.declared.raw_row.RawRow.{RawRow}
 use Rattle.sdf_rows.specs.declared.raw_row.RowFault.{RowFault}
 use Rattle.sdf_rows.specs.declared.raw_row.RowFault.TheVariants.{Trailing}
 use Rattle.sdf_rows.specs.declared.raw_row.RowStep.{RowStep}

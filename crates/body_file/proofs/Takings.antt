@@ -3,7 +3,7 @@ use Rattle.std.proofs.Common.{◌≡◌, ℕ, ◌+◌, ◌-◌, ◌*◌, ◌/◌
 use Rattle.std.proofs.Math.Seq.{drop-append_seam}
 use Rattle.std.proofs.lemmas.Bool.{le-ltb, leb-false}
 use Rattle.std.specs.Prelude.{nat_lt, nat_le}
-use Rattle.hot_model.specs.Limits.{max_header_bytes, max_bodies, max_row_bytes}
+use Rattle.hot_units.specs.Limits.{max_header_bytes, max_bodies, max_row_bytes}
 use Rattle.sdf_header.specs.Layouts.{LayoutValue, IsLayout}
 use Rattle.sdf_header.specs.declared.header_fault.HeaderFault.TheVariants.{NoMagic, TooLong}
 use Rattle.sdf_header.specs.Verdict.{verdict}

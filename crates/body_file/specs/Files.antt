@@ -1,6 +1,6 @@
 -- What a body file holds, and how far one is read.
 use Rattle.std.specs.Prelude.{◌≡◌, ℕ, ◌+◌, ◌*◌, ◌-◌, ◌<◌, true, false, List, length, take, drop, None, Ok}
-use Rattle.hot_model.specs.Limits.{max_header_bytes, max_bodies, max_row_bytes}
+use Rattle.hot_units.specs.Limits.{max_header_bytes, max_bodies, max_row_bytes}
 use Rattle.hot_io.specs.Reading.{Reading, taken, ended, has_ended, has_failed}
 use Rattle.sdf_header.specs.Layouts.{LayoutValue}
 use Rattle.sdf_header.specs.Verdict.{verdict}

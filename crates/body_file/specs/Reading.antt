@@ -3,7 +3,7 @@ use Rattle.std.specs.Prelude.{◌≡◌, ℕ, ◌+◌, ◌*◌, Bool, true, fals
 use Rattle.sdf_header.specs.Layouts.{LayoutValue, IsLayout}
 use Rattle.sdf_header.specs.Extent.{Ends, Open, extent}
 use Rattle.sdf_header.specs.Verdict.{verdict}
-use Rattle.sdf_rows.specs.declared.raw_row.RawRow.{RawRow}
+use Rattle.hot_units.specs.declared.raw_row.RawRow.{RawRow}
 use Rattle.sdf_rows.specs.Columns.{Is64Bits}
 use Rattle.sdf_rows.specs.Rows.{rows}
 use Rattle.sdf_rows.specs.Reading.{RowsValue, IsBehind}

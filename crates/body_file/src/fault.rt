@@ -3,7 +3,7 @@ ghost use Rattle.std.specs.Prelude.{◌≡◌};
 ghost use Rattle.body_file.specs.Faults as faults;
 
 use body_set::PushError;
-use hot_model::Axis;
+use hot_units::Axis;
 use sdf_header::{HeaderError, HeaderFault};
 use sdf_rows::RowFault;
 use std::alloc::AllocError;

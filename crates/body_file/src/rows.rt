@@ -5,7 +5,8 @@ ghost use Rattle.body_file.specs.Reading.{IsAt, PushesRow, StopsRows};
 
 use crate::fault::{FileFault, ReadError, row_error};
 use body_set::BodySet;
-use sdf_rows::{RawRow, Rows};
+use hot_units::RawRow;
+use sdf_rows::Rows;
 
 /// Adds a row as the next body.
 fn push_row(set: &mut BodySet, raw: &RawRow) -> Result<(), ReadError>

@@ -4,7 +4,7 @@ use Rattle.std.proofs.lemmas.List.{map-append, length-map}
 use Rattle.std.proofs.lemmas.Grind.{flat_map-append}
 use Rattle.hot_io.specs.Writing.{Passes}
 use Rattle.hot_io.proofs.Blocks.{SendsFront, cut_before}
-use Rattle.hot_model.specs.Branches.{numbers_below}
+use Rattle.hot_units.specs.Numbers.{numbers_below}
 use Rattle.body_set.specs.Sets.{SetValue, set_of_rows, empty_set, with_row}
 use Rattle.body_set.proofs.Adding.{bodies-length, rows_add_up}
 use Rattle.body_maker.specs.declared.generator.Place.{Place}

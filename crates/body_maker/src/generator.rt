@@ -2,7 +2,7 @@
 ghost use Rattle.std.specs.Prelude.{◌≡◌, ◌<◌, ◌^◌};
 ghost use Rattle.body_maker.specs.Generator as generator;
 
-use round_runner::{drawn, next_state};
+use hot_units::{drawn, next_state};
 
 /// The place of a body, in units of a cube of 21 bits.
 #[derive(Clone, Copy)]

@@ -1,8 +1,8 @@
 -- Rows that are added one by one.
 use Rattle.std.proofs.Common.{ℕ, suc, ℤ, ◌≡◌, ◌+◌, List, [], ◌∷◌, ◌++◌, length, refl, ap, sym, arith}
 use Rattle.std.proofs.lemmas.List.{map-append}
-use Rattle.hot_model.specs.Values.{BodyValue, CubeValue}
-use Rattle.sdf_rows.specs.declared.raw_row.RawRow.{RawRow}
+use Rattle.hot_units.specs.Values.{BodyValue, CubeValue}
+use Rattle.hot_units.specs.declared.raw_row.RawRow.{RawRow}
 use Rattle.body_set.specs.Rows.{body_of_row, weight_of_row}
 use Rattle.body_set.specs.Sets.{SetValue, bodies_from, set_of_rows, with_row, empty_set}
 use Rattle.body_set.specs.Laws as laws

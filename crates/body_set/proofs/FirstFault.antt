@@ -2,10 +2,10 @@
 use Rattle.std.proofs.Common.{◌≡◌, ◌<◌, Bool, true, false, cond, ◌++◌, refl, sym, ◌∙◌, Option, Some, None, Result, Ok, Err, MatchOption}
 use Rattle.std.proofs.lemmas.Bool.{ltb-true}
 use Rattle.std.specs.Prelude.{ℕ, pos, nat_lt, slice_get}
-use Rattle.hot_model.specs.declared.cube.Axis.TheVariants.{X, Y, Z}
-use Rattle.hot_model.specs.Limits.{max_bodies, max_body_mass, max_work}
-use Rattle.hot_model.specs.Values.{CubeValue}
-use Rattle.sdf_rows.specs.declared.raw_row.RawRow.{RawRow}
+use Rattle.hot_units.specs.Limits.{max_bodies, max_body_mass, max_work}
+use Rattle.hot_units.specs.Values.{CubeValue}
+use Rattle.hot_units.specs.declared.cube.Axis.TheVariants.{X, Y, Z}
+use Rattle.hot_units.specs.declared.raw_row.RawRow.{RawRow}
 use Rattle.body_set.specs.declared.fault.PushError.{PushError}
 use Rattle.body_set.specs.declared.fault.PushError.TheVariants.{TooMany, Outside, MassRange, WorkRange}
 use Rattle.body_set.specs.Rows.{unless, is_inside, is_between, first_fault}

@@ -3,11 +3,10 @@ use Rattle.std.proofs.Common.{ℕ, ℤ, ◌≡◌, ◌<◌, List, [], ◌∷◌,
 use Rattle.std.proofs.lemmas.Bool.{cases_lt}
 use Rattle.std.proofs.lemmas.List.{get_or_append_left, get_or_push}
 use Rattle.std.proofs.lemmas.List.Elements.{All-push}
-use Rattle.hot_model.specs.Limits.{max_bodies}
-use Rattle.hot_model.specs.Values.{BodyValue}
-use Rattle.hot_model.specs.Forces.{RowsCount}
-use Rattle.hot_model.specs.World.{IsBody}
-use Rattle.body_set.specs.Sets.{IsSet}
+use Rattle.hot_units.specs.Limits.{max_bodies}
+use Rattle.hot_units.specs.Values.{BodyValue}
+use Rattle.hot_units.specs.Bodies.{RowsCount, IsBody}
+use Rattle.key_order.specs.Ordered.{IsSet}
 
 rows_more : (xs : List BodyValue) (b : BodyValue) → RowsCount xs → b.row ≡ length xs → RowsCount (xs ++ b ∷ [])
 rows_more xs b h e i d k =

@@ -1,7 +1,7 @@
 -- The laws of sets.
 use Rattle.std.specs.Prelude.{◌≡◌, List, ◌∷◌, [], ◌++◌}
-use Rattle.hot_model.specs.Values.{CubeValue}
-use Rattle.sdf_rows.specs.declared.raw_row.RawRow.{RawRow}
+use Rattle.hot_units.specs.Values.{CubeValue}
+use Rattle.hot_units.specs.declared.raw_row.RawRow.{RawRow}
 use Rattle.body_set.specs.Sets.{set_of_rows, empty_set, with_row}
 
 -- a set to which rows are added one by one is the set of the list of these rows

@@ -1,9 +1,9 @@
 -- What a row gives, and what may be wrong with it.
 use Rattle.std.specs.Prelude.{ℕ, ◌*◌, ◌-◌, ◌^◌, ℤ, pos, ◌+ℤ◌, ◌-ℤ◌, nat_abs, int_lt, int_le, Bool, ◌&&◌, if◌then◌else◌, nat_lt, List, [], ◌∷◌, ◌++◌, Option, slice_get}
-use Rattle.hot_model.specs.declared.cube.Axis.TheVariants.{X, Y, Z}
-use Rattle.hot_model.specs.Limits.{fine_bits, max_bodies, max_body_mass, max_work}
-use Rattle.hot_model.specs.Values.{BodyValue, CubeValue}
-use Rattle.sdf_rows.specs.declared.raw_row.RawRow.{RawRow}
+use Rattle.hot_units.specs.Limits.{fine_bits, max_bodies, max_body_mass, max_work}
+use Rattle.hot_units.specs.Values.{BodyValue, CubeValue}
+use Rattle.hot_units.specs.declared.cube.Axis.TheVariants.{X, Y, Z}
+use Rattle.hot_units.specs.declared.raw_row.RawRow.{RawRow}
 use Rattle.body_set.specs.declared.fault.PushError.{PushError}
 use Rattle.body_set.specs.declared.fault.PushError.TheVariants.{TooMany, Outside, MassRange, WorkRange}
 

@@ -1,22 +1,14 @@
 -- A set of bodies in file order, and the bodies in key order.
-use Rattle.std.specs.Prelude.{ℕ, suc, ◌≡◌, ◌<◌, ◌≤◌, ℤ, List, [], ◌∷◌, ◌++◌, length, map, All}
-use Rattle.hot_model.specs.Limits.{max_bodies}
-use Rattle.hot_model.specs.Values.{BodyValue, CubeValue}
-use Rattle.hot_model.specs.Forces.{RowsCount, RowsDiffer}
-use Rattle.hot_model.specs.Order.{IsInOrder, ordered}
-use Rattle.hot_model.specs.World.{IsBody}
-use Rattle.sdf_rows.specs.declared.raw_row.RawRow.{RawRow}
+use Rattle.std.specs.Prelude.{ℕ, suc, ℤ, List, [], ◌∷◌, ◌++◌, length, map}
+use Rattle.hot_units.specs.Values.{BodyValue, CubeValue}
+use Rattle.hot_units.specs.Order.{ordered}
+use Rattle.hot_units.specs.declared.raw_row.RawRow.{RawRow}
 use Rattle.body_set.specs.Rows.{body_of_row, weight_of_row}
+use Rattle.key_order.specs.Ordered.{OrderedValue}
 
 -- a cube, and the bodies in it with their idents and weights, in file order
 pub record SetValue : Type 0 where
   pub cube : CubeValue
-  pub bodies : List BodyValue
-  pub idents : List ℤ
-  pub weights : List ℕ
-
--- the bodies in key order, and idents and weights in file order
-pub record OrderedValue : Type 0 where
   pub bodies : List BodyValue
   pub idents : List ℤ
   pub weights : List ℕ
@@ -50,21 +42,3 @@ set_of_rows cube raws = record {
 -- the bodies of a set in key order
 abbrev pub in_key_order : SetValue → OrderedValue
 in_key_order set = record { bodies = ordered set.bodies; idents = set.idents; weights = set.weights }
-
--- what holds of each set: each body is one, has its place as its row, and has an ident and a weight
-pub record IsSet (bodies : List BodyValue) (idents : List ℤ) (weights : List ℕ) : Type 0 where
-  pub sound : All IsBody bodies
-  pub rows : RowsCount bodies
-  pub few : length bodies ≤ max_bodies
-  pub idents_too : length idents ≡ length bodies
-  pub weights_too : length weights ≡ length bodies
-
--- what holds of each list in key order: it ascends, and each row, below its length, stands once
-pub record IsOrderedSet (set : OrderedValue) : Type 0 where
-  pub sound : All IsBody set.bodies
-  pub in_order : IsInOrder set.bodies
-  pub rows_differ : RowsDiffer set.bodies
-  pub rows_in : All (λ b. b.row < length set.bodies) set.bodies
-  pub few : length set.bodies ≤ max_bodies
-  pub idents_too : length set.idents ≡ length set.bodies
-  pub weights_too : length set.weights ≡ length set.bodies

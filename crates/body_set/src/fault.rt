@@ -1,7 +1,7 @@
 ghost use Rattle.std.specs.Prelude.{◌≡◌};
 ghost use Rattle.body_set.specs.declared.fault.PushError.TheVariants.{Memory};
 
-use hot_model::Axis;
+use hot_units::Axis;
 use std::alloc::AllocError;
 use thiserror::Error;
 

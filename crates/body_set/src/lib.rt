@@ -4,11 +4,10 @@
 
 mod fault;
 mod laws;
-mod ordered;
 mod row;
 mod set;
 
 pub use fault::PushError;
+pub use key_order::Ordered;
 pub use laws::rows_add_up;
-pub use ordered::Ordered;
 pub use set::BodySet;

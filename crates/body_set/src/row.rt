@@ -1,13 +1,12 @@
 ghost use Rattle.std.specs.Prelude.{◌≡◌, ◌<◌, ◌≤◌, ◌^◌, pos, true, false, nat_abs, IfSome, IfOk};
 ghost use Rattle.std.specs.Prelude.{MatchOption};
-ghost use Rattle.hot_model.specs.Limits.{fine_bits};
-ghost use Rattle.hot_model.specs.World.{IsBody};
+ghost use Rattle.hot_units.specs.Limits.{fine_bits};
+ghost use Rattle.hot_units.specs.Bodies.{IsBody};
 ghost use Rattle.body_set.specs.Rows as rows;
 
 use crate::PushError;
-use hot_model::limits::{FINE_BITS, MAX_BODIES, MAX_BODY_MASS, MAX_WORK};
-use hot_model::{Axis, Body, Cube, body_of};
-use sdf_rows::RawRow;
+use hot_units::limits::{FINE_BITS, MAX_BODIES, MAX_BODY_MASS, MAX_WORK};
+use hot_units::{Axis, Body, Cube, RawRow, body_of};
 
 /// A coordinate of the file in fine units; None exactly outside the cube. The distance from the
 /// corner is taken without a sign, so it is exact for every 128-bit number.

@@ -1,14 +1,13 @@
 ghost use Rattle.std.specs.Prelude.{◌≡◌, ◌≤◌, ◌∷◌, ◌++◌, [], length, IsOkAnd, IsOkUnless, OnOk};
 ghost use Rattle.std.specs.Prelude.{OnErr, MatchOption, MatchResult};
-ghost use Rattle.hot_model.specs.Limits.{max_bodies};
+ghost use Rattle.hot_units.specs.Limits.{max_bodies};
 ghost use Rattle.body_set.specs.Rows.{first_fault};
 ghost use Rattle.body_set.specs.Sets as sets;
 
-use crate::ordered::in_key_order;
+use crate::PushError;
 use crate::row::read_row;
-use crate::{Ordered, PushError};
-use hot_model::{Body, Cube};
-use sdf_rows::RawRow;
+use hot_units::{Body, Cube, RawRow};
+use key_order::{Ordered, in_key_order};
 use std::alloc::{AllocError, Global};
 use std::marker::Model;
 
@@ -23,7 +22,8 @@ pub struct BodySet {
 }
 
 impl Model for BodySet {
-    ghost use Rattle.body_set.specs.Sets.{SetValue, IsSet};
+    ghost use Rattle.body_set.specs.Sets.{SetValue};
+    ghost use Rattle.key_order.specs.Ordered.{IsSet};
 
     ghost Value = { SetValue };
 

@@ -5,16 +5,14 @@ use Rattle.std.specs.List.{list_any}
 use Rattle.std.proofs.lemmas.List.{take_more, map-append, append-nil, length-map, length-take, length-drop}
 use Rattle.std.proofs.lemmas.List.Elements.{filter-append}
 use Rattle.std.proofs.lemmas.List.Sums.{sum_by_more, sum_by_more_le, sum_by-cons, length-filter, count_by-le-length}
-use Rattle.hot_model.specs.Limits.{max_all_mass}
-use Rattle.hot_model.specs.Values.{CellValue}
-use Rattle.hot_model.specs.Keys.{IsCell, covers}
-use Rattle.hot_model.specs.Trees.{child, digits}
-use Rattle.hot_model.specs.Branches.{joined_record}
-use Rattle.hot_model.proofs.Fronts.{covers-trans}
-use Rattle.hot_model.proofs.Homes.{filter_same}
-use Rattle.hot_model.proofs.Members.{filter_has, has_filter, has_length, some_member, any_has, has_any, has_map, have_digits}
-use Rattle.hot_model.proofs.Orders.{same_cell}
+use Rattle.hot_units.specs.Limits.{max_all_mass}
+use Rattle.hot_units.specs.Values.{CellValue}
+use Rattle.hot_units.specs.Keys.{IsCell, covers, child, digits}
+use Rattle.hot_units.proofs.Members.{filter_same, filter_has, has_filter, has_length, some_member, any_has, has_any, has_map, have_digits}
 use Rattle.hot_model.proofs.Parts.{digits-at}
+use Rattle.hot_model.proofs.Fronts.{covers-trans}
+use Rattle.hot_model.proofs.Orders.{same_cell}
+use Rattle.rank_model.specs.Branches.{joined_record}
 use Rattle.moments.specs.Sums.{joined}
 use Rattle.branch_merge.specs.declared.listed.Listed.{Listed}
 use Rattle.branch_merge.specs.Listing.{records}

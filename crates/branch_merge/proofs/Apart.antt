@@ -4,10 +4,10 @@ use Rattle.std.specs.Prelude.{Contains}
 use Rattle.std.proofs.lemmas.List.{get_or_default}
 use Rattle.std.proofs.lemmas.List.Elements.{All-filter}
 use Rattle.std.proofs.lemmas.List.Kept.{IsNonDecreasingBy-filter}
-use Rattle.hot_model.specs.Keys.{IsCell, covers, level}
-use Rattle.hot_model.specs.Needs.{IsAbove}
+use Rattle.hot_units.specs.Keys.{IsCell, covers, level}
+use Rattle.hot_units.proofs.Members.{all_members, has_filter}
 use Rattle.hot_model.proofs.Fronts.{covers-trans}
-use Rattle.hot_model.proofs.Members.{all_members, has_filter}
+use Rattle.rank_model.specs.Needs.{IsAbove}
 use Rattle.branch_merge.specs.declared.listed.Listed.{Listed}
 use Rattle.branch_merge.specs.Listing.{AreApart}
 use Rattle.branch_merge.specs.Tops.{IsTopOf}

@@ -2,12 +2,10 @@
 use Rattle.std.proofs.Common.{ℕ, zero, suc, ◌≡◌, ◌+◌, ◌-◌, ◌/◌, ◌^◌, ◌<◌, ◌≤◌, true, sym, ap, ◌∙◌, subst, inl, inr, arith}
 use Rattle.std.specs.Prelude.{◌⊎◌}
 use Rattle.std.proofs.lemmas.Bool.{cases_lt, cases_eq}
-use Rattle.hot_model.specs.Keys.{HasLevel, IsCell, level, covers}
-use Rattle.hot_model.specs.Trees.{child}
-use Rattle.hot_model.specs.Branches.{parent}
-use Rattle.hot_model.specs.Needs.{IsAbove}
-use Rattle.hot_model.proofs.Digits.{level-is}
+use Rattle.hot_units.specs.Keys.{HasLevel, IsCell, level, covers, child, parent}
+use Rattle.hot_units.proofs.Digits.{level-is}
 use Rattle.hot_model.proofs.Fronts.{covers_front, front_covers, drop_twice, covers_level, covers-trans, covers-parent, parent-covers, parent_of_child, covers-self, one_level, root_level}
+use Rattle.rank_model.specs.Needs.{IsAbove}
 use Rattle.morton_key.specs.Ranges.{IsBodyKey, first_key, last_key}
 use Rattle.morton_key.proofs.Numbers.{is_least, is_greatest, child_has}
 use Rattle.morton_key.proofs.KeyLaws.{range_of_a_cell}

@@ -6,7 +6,7 @@ use Rattle.std.proofs.lemmas.Bool.{cases_lt}
 use Rattle.std.proofs.lemmas.List.{get_or_default, get_or_append_left, get_or_push}
 use Rattle.std.proofs.lemmas.List.Elements.{Contains-get_or}
 use Rattle.std.proofs.lemmas.List.Kept.{AllPairs-from_increasing}
-use Rattle.hot_model.specs.Keys.{IsCell, covers}
+use Rattle.hot_units.specs.Keys.{IsCell, covers}
 use Rattle.morton_key.specs.Ranges.{first_key}
 use Rattle.branch_merge.specs.declared.listed.Listed.{Listed}
 use Rattle.branch_merge.specs.declared.top_cell.TopCell.{TopCell}

@@ -5,15 +5,16 @@ use Rattle.std.proofs.lemmas.List.{length-map, map-append, map-id}
 use Rattle.std.proofs.lemmas.List.Elements.{All-contains}
 use Rattle.std.proofs.lemmas.Simd.{map-map}
 use Rattle.std.proofs.lemmas.List.Sorted.{Contains-permutation, IsPermutation-sym}
-use Rattle.hot_model.specs.Values.{BodyValue, CellValue}
+use Rattle.hot_units.specs.Values.{BodyValue, CellValue}
+use Rattle.hot_units.specs.Numbers.{numbers_below}
+use Rattle.hot_units.proofs.Members.{map_has, has_map, flat_has, has_flat, some_member, flat_same}
+use Rattle.hot_units.proofs.Sorts.{below_has, has_below}
 use Rattle.hot_model.specs.Trees.{cell_record}
-use Rattle.hot_model.specs.World.{World, rank_of, bodies_in, IsGood}
-use Rattle.hot_model.specs.Branches.{IsBranch, branches, branch_records, numbers_below, all_branches, all_records}
-use Rattle.hot_model.proofs.Members.{map_has, has_map, flat_has, has_flat, some_member}
-use Rattle.hot_model.proofs.Owners.{has_inside, rank_in_own}
-use Rattle.hot_model.proofs.Heights.{flat_same}
-use Rattle.hot_model.proofs.Sorts.{below_has, has_below}
-use Rattle.hot_model.proofs.Counts.{branches-are}
+use Rattle.hot_model.proofs.Parts.{has_inside}
+use Rattle.rank_model.specs.World.{World, rank_of, bodies_in, IsGood}
+use Rattle.rank_model.specs.Branches.{IsBranch, branches, branch_records, all_branches, all_records}
+use Rattle.rank_model.proofs.Owners.{rank_in_own}
+use Rattle.rank_model.proofs.Counts.{branches-are}
 use Rattle.branch_merge.specs.declared.listed.Listed.{Listed}
 use Rattle.branch_merge.specs.Listing.{of_rank, all_listed, records}
 use Rattle.branch_merge.specs.Laws.{branch_lists, AreTrue}

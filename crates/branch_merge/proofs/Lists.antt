@@ -6,9 +6,9 @@ use Rattle.std.proofs.lemmas.Bool.{cases_lt}
 use Rattle.std.proofs.lemmas.List.{get_or-map, get_or_append_left, get_or_at}
 use Rattle.std.proofs.lemmas.List.Elements.{Contains-get_or, Contains-append_cases}
 use Rattle.std.proofs.lemmas.List.Sorted.{sum_by-IsPermutation}
-use Rattle.hot_model.specs.Branches.{numbers_below}
-use Rattle.hot_model.proofs.Members.{head_has, tail_has, has_flat}
-use Rattle.hot_model.proofs.Sorts.{AllAbove, Ascends, above_member, sum_filter}
+use Rattle.hot_units.specs.Numbers.{numbers_below}
+use Rattle.hot_units.proofs.Members.{head_has, tail_has, has_flat}
+use Rattle.hot_units.proofs.Sorts.{AllAbove, Ascends, above_member, sum_filter}
 
 -- there are n numbers below n
 pub length-below : (n : ℕ) → length (numbers_below n) ≡ n

@@ -4,14 +4,16 @@ use Rattle.std.specs.Prelude.{Contains}
 use Rattle.std.proofs.lemmas.List.{get_or-map, length-map}
 use Rattle.std.proofs.lemmas.List.Elements.{Contains-get_or}
 use Rattle.std.proofs.lemmas.List.Sorted.{IsPermutation-refl}
-use Rattle.hot_model.specs.Keys.{covers}
-use Rattle.hot_model.specs.World.{World, bodies_in, IsGood}
-use Rattle.hot_model.specs.Branches.{IsBranch, branches, numbers_below, all_branches}
-use Rattle.hot_model.proofs.Members.{all_members, some_member}
+use Rattle.hot_units.specs.Numbers.{numbers_below}
+use Rattle.hot_units.specs.Keys.{covers}
+use Rattle.hot_units.proofs.Members.{all_members, some_member}
+use Rattle.hot_units.proofs.Sorts.{below_ascends}
+use Rattle.hot_model.proofs.Parts.{has_inside}
 use Rattle.hot_model.proofs.Fronts.{covers-self, covers-contains}
-use Rattle.hot_model.proofs.Owners.{has_inside, one_branch}
-use Rattle.hot_model.proofs.Sorts.{below_ascends}
-use Rattle.hot_model.proofs.Counts.{branches-are, branches_ascend}
+use Rattle.rank_model.specs.World.{World, bodies_in, IsGood}
+use Rattle.rank_model.specs.Branches.{IsBranch, branches, all_branches}
+use Rattle.rank_model.proofs.Owners.{one_branch}
+use Rattle.rank_model.proofs.Counts.{branches-are, branches_ascend}
 use Rattle.branch_merge.specs.declared.listed.Listed.{Listed}
 use Rattle.branch_merge.specs.Listing.{all_listed, AreApart}
 use Rattle.branch_merge.specs.Laws.{branch_lists, TrueListsMerge}

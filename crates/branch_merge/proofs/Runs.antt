@@ -5,7 +5,7 @@ use Rattle.std.specs.List.Sorted.{IsNonDecreasingBy}
 use Rattle.std.proofs.lemmas.Bool.{cases_lt}
 use Rattle.std.proofs.lemmas.List.{get_or_default}
 use Rattle.std.proofs.lemmas.List.Elements.{All-get_or, Contains-get_or}
-use Rattle.hot_model.specs.Keys.{IsCell, covers}
+use Rattle.hot_units.specs.Keys.{IsCell, covers}
 use Rattle.morton_key.specs.Ranges.{first_key, last_key}
 use Rattle.morton_key.proofs.Numbers.{is_least}
 use Rattle.branch_merge.specs.declared.listed.Listed.{Listed}

@@ -4,16 +4,18 @@ use Rattle.std.specs.Prelude.{Contains}
 use Rattle.std.proofs.lemmas.Bool.{true≢false, false_from_ne_true, eq-eqb, eqb-true}
 use Rattle.std.proofs.lemmas.List.Elements.{All-contains}
 use Rattle.std.proofs.lemmas.List.Sums.{sum_by-cons}
-use Rattle.hot_model.specs.Values.{BodyValue, CellValue}
-use Rattle.hot_model.specs.Keys.{contains}
-use Rattle.hot_model.specs.Trees.{inside, mass_of, mass_of_body, cell_record}
-use Rattle.hot_model.specs.World.{World, rank_of, bodies_in, IsGood}
-use Rattle.hot_model.specs.Branches.{IsBranch, branches, numbers_below, all_branches}
-use Rattle.hot_model.proofs.Members.{head_has, tail_has}
-use Rattle.hot_model.proofs.Owners.{inside_has, rank_in_own, branch_of, one_branch}
-use Rattle.hot_model.proofs.Parts.{sum_by-filter-cons}
-use Rattle.hot_model.proofs.Sorts.{sum_none, sum_one, sum_same, sum_both, sum_flat, sum_map, below_has, below_ascends}
-use Rattle.hot_model.proofs.Counts.{branches-are, branches_ascend}
+use Rattle.hot_units.specs.Values.{BodyValue, CellValue}
+use Rattle.hot_units.specs.Numbers.{numbers_below}
+use Rattle.hot_units.specs.Keys.{contains}
+use Rattle.hot_units.specs.Bodies.{mass_of, mass_of_body}
+use Rattle.hot_units.proofs.Members.{head_has, tail_has}
+use Rattle.hot_units.proofs.Sorts.{sum_none, sum_one, sum_same, sum_both, sum_flat, sum_map, below_has, below_ascends}
+use Rattle.hot_model.specs.Trees.{inside, cell_record}
+use Rattle.hot_model.proofs.Parts.{inside_has, sum_by-filter-cons}
+use Rattle.rank_model.specs.World.{World, rank_of, bodies_in, IsGood}
+use Rattle.rank_model.specs.Branches.{IsBranch, branches, all_branches}
+use Rattle.rank_model.proofs.Owners.{rank_in_own, branch_of, one_branch}
+use Rattle.rank_model.proofs.Counts.{branches-are, branches_ascend}
 use Rattle.branch_merge.specs.declared.listed.Listed.{Listed}
 use Rattle.branch_merge.specs.Listing.{all_listed}
 use Rattle.branch_merge.specs.Laws.{branch_lists}

@@ -4,20 +4,20 @@ use Rattle.std.specs.Prelude.{Contains, ◌↔◌, ◌⊎◌, if◌then◌else�
 use Rattle.std.specs.List.Sorted.{IsPermutation}
 use Rattle.std.proofs.lemmas.Bool.{true≢false, false_from_ne_true}
 use Rattle.std.proofs.lemmas.List.Sorted.{IsPermutation-map}
-use Rattle.hot_model.specs.Values.{CellValue}
-use Rattle.hot_model.specs.Keys.{IsCell, covers}
-use Rattle.hot_model.specs.Trees.{cell_record, child, digits, is_empty, record_at}
-use Rattle.hot_model.specs.Answers.{child_records}
-use Rattle.hot_model.specs.World.{World, bodies_in, IsGood}
-use Rattle.hot_model.specs.Branches.{IsBranch, IsTop, IsOwner, branches, tops, branch_records, joined_record}
-use Rattle.hot_model.specs.Needs.{IsAbove}
-use Rattle.hot_model.proofs.Members.{head_has, tail_has, map_has, has_map, has_filter, any_has, has_any, have_digits, has_length, some_member}
+use Rattle.hot_units.specs.Values.{CellValue}
+use Rattle.hot_units.specs.Keys.{IsCell, covers, child, digits}
+use Rattle.hot_units.proofs.Members.{head_has, tail_has, map_has, has_map, has_filter, any_has, has_any, have_digits, has_length, some_member}
+use Rattle.hot_units.proofs.Sorts.{ascends_same}
+use Rattle.hot_model.specs.Trees.{cell_record, is_empty, record_at}
 use Rattle.hot_model.proofs.Fronts.{covers-self, child_cell}
 use Rattle.hot_model.proofs.Orders.{same_cell}
-use Rattle.hot_model.proofs.Owners.{covered_has, top_is_high, child_of_top}
 use Rattle.hot_model.proofs.Walks.{some_length, full_length}
-use Rattle.hot_model.proofs.Homes.{ascends_same}
-use Rattle.hot_model.proofs.Counts.{branches-are, tops-are, tops_ascend, tops-above, top-record}
+use Rattle.rank_model.specs.World.{World, bodies_in, IsGood}
+use Rattle.rank_model.specs.Branches.{IsBranch, IsTop, IsOwner, branches, tops, branch_records, joined_record}
+use Rattle.rank_model.specs.Needs.{IsAbove}
+use Rattle.rank_model.specs.Answers.{child_records}
+use Rattle.rank_model.proofs.Owners.{covered_has, top_is_high, child_of_top}
+use Rattle.rank_model.proofs.Counts.{branches-are, tops-are, tops_ascend, tops-above, top-record}
 use Rattle.branch_merge.specs.declared.listed.Listed.{Listed}
 use Rattle.branch_merge.specs.Listing.{all_listed, records}
 use Rattle.branch_merge.specs.Tops.{IsTopOf, IsOwnerIn, has_listed, children_of, AreTops}

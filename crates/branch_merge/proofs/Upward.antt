@@ -9,14 +9,13 @@ use Rattle.std.proofs.lemmas.List.Elements.{Contains-append_left, Contains-push,
 use Rattle.std.proofs.lemmas.List.Kept.{Contains-dedup_nat, Contains-from_dedup}
 use Rattle.std.proofs.lemmas.List.Sorted.{IsPermutation-sym, Contains-permutation}
 use Rattle.std.proofs.lemmas.Map.Keys.{IsStrictlyIncreasing-dedup}
-use Rattle.hot_model.specs.Keys.{IsCell, level, covers}
-use Rattle.hot_model.specs.Branches.{parent}
-use Rattle.hot_model.specs.Needs.{IsAbove}
+use Rattle.hot_units.specs.Keys.{IsCell, level, covers, parent}
+use Rattle.hot_model.proofs.Fronts.{covers-trans}
+use Rattle.rank_model.specs.Needs.{IsAbove}
 use Rattle.branch_merge.specs.declared.listed.Listed.{Listed}
 use Rattle.branch_merge.specs.Tops.{IsTopOf, AreTops}
 use Rattle.branch_merge.specs.Merged.{IsProper, HasAbove, Gains}
 use Rattle.branch_merge.proofs.Cells.{self_covers, step_up, further, none_above_root, parent_covers}
-use Rattle.hot_model.proofs.Fronts.{covers-trans}
 
 -- what is known on the way up from a cell
 pub record Climbs (old keys : List ℕ) (cell below : ℕ) : Type 0 where

@@ -1,13 +1,14 @@
 -- What is merged from the true branch lists is the top of the tree over all bodies.
 use Rattle.std.specs.Prelude.{ℕ, ◌≡◌, ◌≤◌, ◌↔◌, ◌⊎◌, true, List, map, Contains}
 use Rattle.std.specs.List.Sorted.{IsPermutation}
-use Rattle.hot_model.specs.Limits.{max_ranks}
-use Rattle.hot_model.specs.Values.{BodyValue, CellValue}
-use Rattle.hot_model.specs.Keys.{IsCell, contains}
+use Rattle.hot_units.specs.Limits.{max_ranks}
+use Rattle.hot_units.specs.Values.{BodyValue, CellValue}
+use Rattle.hot_units.specs.Numbers.{numbers_below}
+use Rattle.hot_units.specs.Keys.{IsCell, contains}
 use Rattle.hot_model.specs.Trees.{cell_record}
-use Rattle.hot_model.specs.Answers.{child_records}
-use Rattle.hot_model.specs.World.{World, IsGood, rank_of}
-use Rattle.hot_model.specs.Branches.{IsBranch, IsTop, IsOwner, tops as top_cells, branch_records, numbers_below, joined_record}
+use Rattle.rank_model.specs.World.{World, IsGood, rank_of}
+use Rattle.rank_model.specs.Branches.{IsBranch, IsTop, IsOwner, tops as top_cells, branch_records, joined_record}
+use Rattle.rank_model.specs.Answers.{child_records}
 use Rattle.branch_merge.specs.declared.listed.Listed.{Listed}
 use Rattle.branch_merge.specs.Listing.{all_listed, records, CanMerge}
 use Rattle.branch_merge.specs.Tops.{IsTopOf, IsOwnerIn, children_of, AreTops}

@@ -1,9 +1,9 @@
 -- Branch lists, one for each rank, and the records in them.
 use Rattle.std.specs.Prelude.{ℕ, ◌≡◌, ◌≤◌, ◌<◌, ◌^◌, true, List, [], length, map, flat_map, sum_by, get_or, All}
-use Rattle.hot_model.specs.Limits.{max_ranks, max_all_mass}
-use Rattle.hot_model.specs.Values.{CellValue}
-use Rattle.hot_model.specs.Keys.{covers}
-use Rattle.hot_model.specs.Branches.{numbers_below}
+use Rattle.hot_units.specs.Limits.{max_ranks, max_all_mass}
+use Rattle.hot_units.specs.Values.{CellValue}
+use Rattle.hot_units.specs.Numbers.{numbers_below}
+use Rattle.hot_units.specs.Keys.{covers}
 use Rattle.branch_merge.specs.declared.listed.Listed.{Listed}
 
 -- the records of the list of rank q

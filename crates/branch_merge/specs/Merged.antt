@@ -1,10 +1,10 @@
 -- What is kept of merged lists: the listed records in Morton order, and the cells above them.
 use Rattle.std.specs.Prelude.{ℕ, ◌≡◌, ◌<◌, ◌≤◌, true, List, length, get_or, sum_by, All, Contains, ◌⊎◌, ◌^◌}
 use Rattle.std.specs.List.Sorted.{IsNonDecreasingBy}
-use Rattle.hot_model.specs.Limits.{max_all_mass}
-use Rattle.hot_model.specs.Values.{CellValue}
-use Rattle.hot_model.specs.Keys.{IsCell, covers}
-use Rattle.hot_model.specs.Needs.{IsAbove}
+use Rattle.hot_units.specs.Limits.{max_all_mass}
+use Rattle.hot_units.specs.Values.{CellValue}
+use Rattle.hot_units.specs.Keys.{IsCell, covers}
+use Rattle.rank_model.specs.Needs.{IsAbove}
 use Rattle.morton_key.specs.Ranges.{first_key}
 use Rattle.branch_merge.specs.declared.listed.Listed.{Listed}
 use Rattle.branch_merge.specs.declared.top_cell.TopCell.{TopCell}

@@ -2,10 +2,9 @@
 use Rattle.std.specs.Prelude.{ℕ, ◌≡◌, ◌↔◌, true, Bool, List, map, filter, Contains}
 use Rattle.std.specs.List.{list_any}
 use Rattle.std.specs.List.Sorted.{IsStrictlyIncreasing}
-use Rattle.hot_model.specs.Keys.{IsCell, covers}
-use Rattle.hot_model.specs.Trees.{child, digits}
-use Rattle.hot_model.specs.Branches.{joined_record}
-use Rattle.hot_model.specs.Needs.{IsAbove}
+use Rattle.hot_units.specs.Keys.{IsCell, covers, child, digits}
+use Rattle.rank_model.specs.Branches.{joined_record}
+use Rattle.rank_model.specs.Needs.{IsAbove}
 use Rattle.branch_merge.specs.declared.listed.Listed.{Listed}
 use Rattle.branch_merge.specs.Listing.{records}
 use Rattle.branch_merge.specs.declared.top_cell.TopCell.{TopCell}

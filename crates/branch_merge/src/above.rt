@@ -1,10 +1,10 @@
 ghost use Rattle.std.specs.Prelude.{ℕ, Contains, IfOk};
-ghost use Rattle.hot_model.specs.Keys.{IsCell};
+ghost use Rattle.hot_units.specs.Keys.{IsCell};
 ghost use Rattle.branch_merge.specs.Tops.{AreTops};
 ghost use Rattle.branch_merge.specs.Merged.{AreCells, Gains, HasAbove};
 
 use crate::Listed;
-use hot_model::covers;
+use hot_units::covers;
 use morton_key::parent;
 use std::alloc::{AllocError, Global};
 

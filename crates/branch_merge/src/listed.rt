@@ -1,5 +1,5 @@
 ghost use Rattle.std.specs.Prelude.{◌≡◌, ◌≤◌, ◌++◌, length, IfOk};
-ghost use Rattle.hot_model.specs.Limits.{max_ranks};
+ghost use Rattle.hot_units.specs.Limits.{max_ranks};
 ghost use Rattle.branch_merge.specs.Listing as listing;
 
 use hot_model::{CellRec, RecList};

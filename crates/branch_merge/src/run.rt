@@ -1,6 +1,6 @@
 ghost use Rattle.std.specs.Prelude.{◌≡◌, ◌≤◌, length, filter, slice_range};
-ghost use Rattle.hot_model.specs.Keys.{IsCell};
-ghost use Rattle.hot_model.specs.Keys as keys;
+ghost use Rattle.hot_units.specs.Keys.{IsCell};
+ghost use Rattle.hot_units.specs.Keys as keys;
 ghost use Rattle.branch_merge.specs.Merged.{AreInOrder, AreSorted, NoneAbove, IsCountTo};
 
 use crate::Listed;

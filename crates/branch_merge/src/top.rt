@@ -1,7 +1,7 @@
 ghost use Rattle.std.specs.Prelude.{◌≡◌, ◌<◌, ◌≤◌, ℕ, List, length, get_or, All, Contains, false};
 ghost use Rattle.std.specs.Prelude.{true, IfOk, MatchOption};
 ghost use Rattle.std.specs.List.Sorted.{IsPermutation};
-ghost use Rattle.hot_model.specs.Keys.{IsCell, covers};
+ghost use Rattle.hot_units.specs.Keys.{IsCell, covers};
 ghost use Rattle.branch_merge.specs.Listing as listing;
 ghost use Rattle.branch_merge.specs.Tops as tops;
 ghost use Rattle.branch_merge.specs.Merged.{IsHolder};
@@ -13,7 +13,8 @@ use crate::order::in_morton_order;
 use crate::run::count_to;
 use crate::top_cell::top_cells;
 use crate::{Listed, TopCell};
-use hot_model::{CellRec, RecList, covers};
+use hot_model::{CellRec, RecList};
+use hot_units::covers;
 use morton_key::first_key;
 use std::alloc::{AllocError, Global};
 use std::marker::Model;

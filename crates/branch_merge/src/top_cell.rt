@@ -1,7 +1,7 @@
 ghost use Rattle.std.specs.Prelude.{◌≡◌, ◌<◌, IfOk};
-ghost use Rattle.hot_model.specs.Limits.{max_level};
-ghost use Rattle.hot_model.specs.Keys.{IsCell};
-ghost use Rattle.hot_model.specs.Keys as keys;
+ghost use Rattle.hot_units.specs.Limits.{max_level};
+ghost use Rattle.hot_units.specs.Keys.{IsCell};
+ghost use Rattle.hot_units.specs.Keys as keys;
 ghost use Rattle.branch_merge.specs.Listing.{AreApart};
 ghost use Rattle.branch_merge.specs.Tops as tops;
 ghost use Rattle.branch_merge.specs.Merged.{AreInOrder, AreSorted, AreBelow, AreLight, IsMerged};

@@ -4,10 +4,10 @@ use Rattle.std.specs.List.{AllByRecursion, list_all}
 use Rattle.std.proofs.Math.Nat.{le-div_iff_mul-le, div-mul-le_self, lt-div-mul-add}
 use Rattle.std.proofs.lemmas.Nat.{pow-add, mul-le}
 use Rattle.std.proofs.lemmas.Bool.{cases_lt, le-leb, lt-ltb, le-ltb, eq-eqb, ne_eqb, eqb-true}
-use Rattle.hot_model.specs.Limits.{max_level}
-use Rattle.hot_model.specs.Values.{CellValue}
-use Rattle.hot_model.specs.Keys.{HasLevel, IsCell, level, covers}
-use Rattle.hot_model.proofs.Digits.{eight_pow_le, eight_pow_pos, level-is, level-le}
+use Rattle.hot_units.specs.Limits.{max_level}
+use Rattle.hot_units.specs.Values.{CellValue}
+use Rattle.hot_units.specs.Keys.{HasLevel, IsCell, level, covers}
+use Rattle.hot_units.proofs.Digits.{eight_pow_le, eight_pow_pos, level-is, level-le}
 use Rattle.cell_mail.specs.Grammar.{rise_above, ascend, is_clear, apart, IsRecord}
 use Rattle.cell_mail.specs.Merging.{skip_below, starts, meets, none_meet}
 use Rattle.cell_mail.proofs.Checks.{both, both_true, ltb_lt, or_cases}

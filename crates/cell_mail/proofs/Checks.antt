@@ -4,12 +4,12 @@ use Rattle.std.proofs.Common.{sym, ◌≡◌, ℕ, zero, suc, ◌+◌, ◌-◌, 
 use Rattle.std.proofs.Math.Nat.{pow-le-pow_right, div-eq_of_lt-le, div-mul-le_self, lt-div-mul-add}
 use Rattle.std.proofs.lemmas.Nat.{mul-le, one_shl}
 use Rattle.std.proofs.lemmas.Bool.{cases_lt, le-leb, lt-leb, lt-ltb, le-ltb, eq-eqb, eqb-true}
-use Rattle.hot_model.specs.Limits.{fine_bits, max_level, max_body_mass}
-use Rattle.hot_model.specs.Values.{BodyValue, CellValue}
-use Rattle.hot_model.specs.Keys.{HasLevel, IsCell, corner, corner_along, extent}
+use Rattle.hot_units.specs.Limits.{fine_bits, max_level, max_body_mass}
+use Rattle.hot_units.specs.Values.{BodyValue, CellValue}
+use Rattle.hot_units.specs.Keys.{HasLevel, IsCell, corner, corner_along, extent}
+use Rattle.hot_units.proofs.Digits.{eight_pow_le, eight_pow_pos}
 use Rattle.hot_model.specs.Facts.{IsFirstSum, IsSecondSum, IsCellRecord}
 use Rattle.hot_model.proofs.Corners.{box_in_cube}
-use Rattle.hot_model.proofs.Digits.{eight_pow_le, eight_pow_pos}
 use Rattle.cell_mail.specs.Grammar.{IsRecord, IsSent, IsBelowRoot}
 use Rattle.cell_mail.specs.Reading.{cell_below, is_cell, is_below_root, is_first, is_second, firsts_fit, seconds_fit, is_record, with_sums, is_sent}
 use Rattle.cell_mail.specs.Spelling.{sums_of}

@@ -1,6 +1,6 @@
 -- The lemmas that functions name.
 use Rattle.std.proofs.lemmas.Nat.{mul-le, one_shl, pow_pos, pow_below}
-use Rattle.hot_model.proofs.Digits.{two_pow_three, level-le}
+use Rattle.hot_units.proofs.Digits.{two_pow_three, level-le}
 use Rattle.cell_mail.proofs.Letters.{is_letter, spelled-is}
 use Rattle.cell_mail.proofs.LetterLaws.{one_spelling, one_content}
 use Rattle.cell_mail.proofs.Checks.{is_cell-same, is_record-facts, is_sent-facts, below_root-is, is_cell-is, firsts-small, second-past}

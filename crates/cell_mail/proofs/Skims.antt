@@ -2,11 +2,11 @@
 use Rattle.std.proofs.Common.{◌≡◌, ℕ, zero, suc, ◌-◌, ◌+◌, ◌<◌, ◌≤◌, Bool, true, false, if◌then◌else◌, ltb, leb, eqb, ◌&&◌, List, [], ◌∷◌, map, length, Option, Some, None, refl, sym, ap, subst, ◌∙◌, arith}
 use Rattle.std.specs.List.{list_all, AllByRecursion}
 use Rattle.std.proofs.lemmas.List.{length-map}
-use Rattle.hot_model.specs.Values.{BodyValue, CellValue}
-use Rattle.hot_model.specs.Keys.{IsCell, contains}
-use Rattle.hot_model.specs.declared.list.Answer.{Answer}
-use Rattle.hot_model.specs.declared.list.Answer.TheVariants.{Children, Bodies}
-use Rattle.hot_model.specs.declared.list.Answered.{Answered}
+use Rattle.hot_units.specs.Values.{BodyValue, CellValue}
+use Rattle.hot_units.specs.Keys.{IsCell, contains}
+use Rattle.hot_model.specs.declared.answer.Answer.{Answer}
+use Rattle.hot_model.specs.declared.answer.Answer.TheVariants.{Children, Bodies}
+use Rattle.hot_model.specs.declared.answer.Answered.{Answered}
 use Rattle.cell_mail.specs.declared.content.Kind.{Kind}
 use Rattle.cell_mail.specs.declared.content.Kind.TheVariants as kinds
 use Rattle.cell_mail.specs.declared.content.Content.{Content}

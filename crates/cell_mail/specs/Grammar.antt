@@ -1,15 +1,14 @@
 -- The grammar of letters: which contents have a spelling, and which bytes spell them.
 use Rattle.std.specs.Prelude.{ℕ, ◌≡◌, ◌<◌, ◌≤◌, ◌^◌, Bool, true, not, ltb, leb, eqb, ◌&&◌, ◌||◌, List, [], ◌∷◌, length, map, Option, Some, None}
 use Rattle.std.specs.List.{AllByRecursion, list_all}
-use Rattle.hot_model.specs.Limits.{fine_bits, max_level, max_bodies, max_body_mass, max_leaf}
-use Rattle.hot_model.specs.Values.{BodyValue, CellValue}
-use Rattle.hot_model.specs.Keys.{IsCell, covers, contains, level}
+use Rattle.hot_units.specs.Limits.{fine_bits, max_level, max_bodies, max_body_mass, max_leaf}
+use Rattle.hot_units.specs.Values.{BodyValue, CellValue}
+use Rattle.hot_units.specs.Keys.{IsCell, covers, contains, level, parent}
+use Rattle.hot_units.specs.Order.{before}
 use Rattle.hot_model.specs.Facts.{IsCellRecord}
-use Rattle.hot_model.specs.Order.{before}
-use Rattle.hot_model.specs.Branches.{parent}
-use Rattle.hot_model.specs.declared.list.Answer.{Answer}
-use Rattle.hot_model.specs.declared.list.Answer.TheVariants.{Children, Bodies}
-use Rattle.hot_model.specs.declared.list.Answered.{Answered}
+use Rattle.hot_model.specs.declared.answer.Answer.{Answer}
+use Rattle.hot_model.specs.declared.answer.Answer.TheVariants.{Children, Bodies}
+use Rattle.hot_model.specs.declared.answer.Answered.{Answered}
 use Rattle.cell_mail.specs.declared.content.Content.{Content}
 use Rattle.cell_mail.specs.declared.content.Content.TheVariants as content
 use Rattle.cell_mail.specs.Sizes.{count_end, max_children}

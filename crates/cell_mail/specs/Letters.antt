@@ -1,6 +1,6 @@
 -- What contracts see of letters.
 use Rattle.std.specs.Prelude.{ℕ, ◌≡◌, ◌<◌, List, [], Option, Some, None}
-use Rattle.hot_model.specs.Limits.{max_ranks}
+use Rattle.hot_units.specs.Limits.{max_ranks}
 use Rattle.cell_mail.specs.declared.content.Kind.{Kind}
 use Rattle.cell_mail.specs.declared.content.Kind.TheVariants as kinds
 use Rattle.cell_mail.specs.declared.content.Content.{Content}

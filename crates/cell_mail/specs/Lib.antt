@@ -6,3 +6,4 @@ pub mod Skimming
 pub mod Letters
 pub mod Merging
 pub mod Laws
+pub mod Notes

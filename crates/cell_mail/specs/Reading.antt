@@ -1,12 +1,12 @@
 -- Reading a letter from left to right: a value and the bytes after it, or none.
 use Rattle.std.specs.Prelude.{ℕ, zero, suc, ◌≡◌, ◌+◌, ◌-◌, ◌*◌, ◌/◌, ◌^◌, ◌<◌, Bool, false, ltb, leb, eqb, ◌&&◌, ◌||◌, if◌then◌else◌, List, [], ◌∷◌, length, map, take, drop, slice_index, Option, Some, None, Result, Ok, Err}
 use Rattle.std.specs.List.{AllByRecursion, list_all}
-use Rattle.hot_model.specs.Limits.{fine_bits, max_level, max_bodies, max_body_mass, max_all_mass}
-use Rattle.hot_model.specs.Values.{BodyValue, CellValue, cell_of}
-use Rattle.hot_model.specs.Keys.{contains, corner, extent}
-use Rattle.hot_model.specs.declared.list.Answer.{Answer}
-use Rattle.hot_model.specs.declared.list.Answer.TheVariants.{Children, Bodies}
-use Rattle.hot_model.specs.declared.list.Answered.{Answered}
+use Rattle.hot_units.specs.Limits.{fine_bits, max_level, max_bodies, max_body_mass, max_all_mass}
+use Rattle.hot_units.specs.Values.{BodyValue, CellValue, cell_of}
+use Rattle.hot_units.specs.Keys.{contains, corner, extent}
+use Rattle.hot_model.specs.declared.answer.Answer.{Answer}
+use Rattle.hot_model.specs.declared.answer.Answer.TheVariants.{Children, Bodies}
+use Rattle.hot_model.specs.declared.answer.Answered.{Answered}
 use Rattle.cell_mail.specs.declared.content.Content.{Content}
 use Rattle.cell_mail.specs.declared.content.Content.TheVariants as content
 use Rattle.cell_mail.specs.declared.content.LetterError.{LetterError}

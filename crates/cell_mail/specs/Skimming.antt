@@ -1,8 +1,8 @@
 -- Reading past the items of a letter for their keys alone.
 use Rattle.std.specs.Prelude.{ℕ, zero, suc, Bool, ltb, leb, eqb, ◌&&◌, if◌then◌else◌, List, length, Option, Some, None}
-use Rattle.hot_model.specs.Limits.{max_bodies}
-use Rattle.hot_model.specs.Values.{BodyValue, CellValue}
-use Rattle.hot_model.specs.Keys.{contains}
+use Rattle.hot_units.specs.Limits.{max_bodies}
+use Rattle.hot_units.specs.Values.{BodyValue, CellValue}
+use Rattle.hot_units.specs.Keys.{contains}
 use Rattle.cell_mail.specs.declared.content.Kind.{Kind}
 use Rattle.cell_mail.specs.declared.content.Kind.TheVariants as kinds
 use Rattle.cell_mail.specs.Grammar.{ascend, apart, follows, has_parent, fits_leaf}

@@ -1,10 +1,10 @@
 -- The one spelling of each content. All numbers stand with their least byte first.
 use Rattle.std.specs.Prelude.{ℕ, zero, suc, ◌/◌, ◌%◌, List, [], ◌∷◌, ◌++◌, length, map}
 use Rattle.std.specs.List.{flat_map}
-use Rattle.hot_model.specs.Values.{BodyValue, CellValue}
-use Rattle.hot_model.specs.declared.list.Answer.{Answer}
-use Rattle.hot_model.specs.declared.list.Answer.TheVariants.{Children, Bodies}
-use Rattle.hot_model.specs.declared.list.Answered.{Answered}
+use Rattle.hot_units.specs.Values.{BodyValue, CellValue}
+use Rattle.hot_model.specs.declared.answer.Answer.{Answer}
+use Rattle.hot_model.specs.declared.answer.Answer.TheVariants.{Children, Bodies}
+use Rattle.hot_model.specs.declared.answer.Answered.{Answered}
 use Rattle.cell_mail.specs.declared.content.Content.{Content}
 use Rattle.cell_mail.specs.declared.content.Content.TheVariants as content
 use Rattle.cell_mail.specs.Sizes.{version, mark_size, count_size, key_size, mass_size, sum_size, field_size, branches_kind, asks_kind, answers_kind, children_tag, bodies_tag}

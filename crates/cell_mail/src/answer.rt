@@ -1,7 +1,7 @@
 ghost use Rattle.std.specs.Prelude.{◌≡◌, ◌++◌, OnOk};
 ghost use Rattle.std.specs.List.{list_all};
-ghost use Rattle.hot_model.specs.Keys as keys;
-ghost use Rattle.hot_model.specs.Order as order;
+ghost use Rattle.hot_units.specs.Keys as keys;
+ghost use Rattle.hot_units.specs.Order as order;
 ghost use Rattle.cell_mail.specs.Sizes.{mark_size};
 ghost use Rattle.cell_mail.specs.Spelling.{number, tag_of, entries, item_bytes};
 ghost use Rattle.cell_mail.specs.Grammar as grammar;
@@ -14,8 +14,9 @@ use crate::keyed::rise;
 use crate::limits::{BODIES, CHILDREN, MAX_CHILDREN, is_below_root};
 use crate::number::{put_u8, put_u64, u8_at, u32_at, u64_at};
 use crate::skim::{Row, Skim, behind_row};
-use hot_model::limits::{MAX_LEAF, MAX_LEVEL};
-use hot_model::{Answer, Answered, Body, CellRec, covers, level};
+use hot_model::{Answer, Answered, CellRec};
+use hot_units::limits::{MAX_LEAF, MAX_LEVEL};
+use hot_units::{Body, covers, level};
 use std::alloc::{AllocError, Global};
 
 /// Whether all of the cells have a cell as parent.
@@ -52,7 +53,7 @@ fn are_inside(cell: u64, bodies: &[Body]) -> bool
 }
 
 /// Whether a body stands before another one.
-#[tactic(auto, unfolding(hot_model::specs::Order::before))]
+#[tactic(auto, unfolding(hot_units::specs::Order::before))]
 fn is_before(a: &Body, b: &Body) -> bool
     ensures { result ≡ order.before a.now b.now }
 {

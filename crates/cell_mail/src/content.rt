@@ -1,7 +1,8 @@
 ghost use Rattle.std.specs.Prelude.{◌≡◌};
 ghost use Rattle.cell_mail.specs.declared.content.LetterError.TheVariants.{Memory};
 
-use hot_model::{AnswerList, KeyList, RecList};
+use hot_model::{AnswerList, RecList};
+use hot_units::KeyList;
 use std::alloc::AllocError;
 use thiserror::Error;
 

@@ -5,7 +5,7 @@ ghost use Rattle.cell_mail.specs.Reading.{Gives, many, counted_at};
 
 use crate::LetterError;
 use crate::number::{put_count, u32_at};
-use hot_model::Items;
+use hot_units::Items;
 use std::alloc::{AllocError, Global};
 
 /// What stands in a letter, one behind the other.

@@ -1,7 +1,8 @@
 ghost use Rattle.std.specs.Prelude.{◌≡◌, ℕ, map, IfOk};
 ghost use Rattle.cell_mail.specs.Grammar.{ascend};
 
-use hot_model::{Answered, CellRec, KeyList};
+use hot_model::{Answered, CellRec};
+use hot_units::KeyList;
 use std::alloc::{AllocError, Global};
 
 /// What has the key of a cell.

@@ -14,7 +14,8 @@ use crate::limits::{ANSWERS, ASKS, BRANCHES, VERSION};
 use crate::number::put_u8;
 use crate::reading::{parsed, whole};
 use crate::{Content, Kind, LetterError};
-use hot_model::{AnswerList, KeyList, RecList};
+use hot_model::{AnswerList, RecList};
+use hot_units::KeyList;
 use std::alloc::{AllocError, Global};
 use std::marker::Model;
 

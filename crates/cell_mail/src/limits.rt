@@ -3,7 +3,7 @@
 ghost use Rattle.std.specs.Prelude.{◌≡◌};
 ghost use Rattle.cell_mail.specs.Reading as reading;
 
-use hot_model::limits::{FINE_BITS, MAX_BODIES, MAX_BODY_MASS};
+use hot_units::limits::{FINE_BITS, MAX_BODIES, MAX_BODY_MASS};
 
 /// The version of letters.
 pub const VERSION: u8 = 2;

@@ -9,7 +9,8 @@ use crate::limits::{is_below_root, is_sent};
 use crate::number::{put_sums, put_u32, put_u64, sums_at, u32_at, u64_at};
 use crate::skim::Skim;
 use crate::sums::is_record;
-use hot_model::{Body, CellRec, body_of};
+use hot_model::CellRec;
+use hot_units::{Body, body_of};
 use std::alloc::{AllocError, Global};
 
 impl Entry for u64 {

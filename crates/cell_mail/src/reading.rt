@@ -1,7 +1,7 @@
 ghost use Rattle.std.specs.Prelude.{◌≡◌, ◌≤◌, ◌^◌, ◌&&◌};
 ghost use Rattle.std.specs.List.{AllByRecursion};
-ghost use Rattle.hot_model.specs.Limits.{max_level};
-ghost use Rattle.hot_model.specs.Keys.{IsCell};
+ghost use Rattle.hot_units.specs.Limits.{max_level};
+ghost use Rattle.hot_units.specs.Keys.{IsCell};
 ghost use Rattle.cell_mail.specs.Grammar as grammar;
 ghost use Rattle.cell_mail.specs.Merging as merging;
 ghost use Rattle.cell_mail.specs.declared.content.Kind.TheVariants as kinds;
@@ -14,8 +14,9 @@ use crate::limits::{ANSWERS, ASKS, BRANCHES, VERSION};
 use crate::number::u8_at;
 use crate::skim::counted_keys;
 use crate::{Content, Kind, LetterError};
-use hot_model::limits::{MAX_BODIES, MAX_LEVEL};
-use hot_model::{Answered, CellRec, KeyList};
+use hot_model::{Answered, CellRec};
+use hot_units::KeyList;
+use hot_units::limits::{MAX_BODIES, MAX_LEVEL};
 use std::alloc::Global;
 
 /// The keys behind those below a number at the front.

@@ -1,5 +1,5 @@
 ghost use Rattle.std.specs.Prelude.{◌≡◌, ℕ, Bool, List, Option, None};
-ghost use Rattle.hot_model.specs.Keys as keys;
+ghost use Rattle.hot_units.specs.Keys as keys;
 ghost use Rattle.cell_mail.specs.Reading.{Gives, many, counted_at};
 ghost use Rattle.cell_mail.specs.Skimming.{row_past};
 
@@ -7,7 +7,7 @@ use crate::LetterError;
 use crate::entry::Entry;
 use crate::limits::KEY_SIZE;
 use crate::number::u32_at;
-use hot_model::KeyList;
+use hot_units::KeyList;
 use std::alloc::Global;
 
 /// What is tested where it lies, for its key alone.

@@ -1,13 +1,13 @@
 //! The tests of a record's numbers. The sums are tested before the products, and the products' size
 //! before the facts that every record keeps, so that nothing overflows on whatever bytes.
 ghost use Rattle.std.specs.Prelude.{◌≡◌, ◌+◌, ◌<◌, ◌≤◌, ◌^◌, ◌-◌, true};
-ghost use Rattle.hot_model.specs.Limits.{max_all_mass};
-ghost use Rattle.hot_model.specs.Keys as keys;
+ghost use Rattle.hot_units.specs.Limits.{max_all_mass};
+ghost use Rattle.hot_units.specs.Keys as keys;
 ghost use Rattle.cell_mail.specs.Reading as reading;
 
 use crate::limits::{SUMS, is_cell};
-use hot_model::level;
-use hot_model::limits::{FINE_BITS, MAX_ALL_MASS, MAX_BODIES};
+use hot_units::level;
+use hot_units::limits::{FINE_BITS, MAX_ALL_MASS, MAX_BODIES};
 use morton_key::corner;
 
 /// A product sum from here on is past every mass times two coordinates.

@@ -5,24 +5,24 @@ use Rattle.std.proofs.lemmas.Bool.{eqb-true, eq-eqb}
 use Rattle.std.proofs.lemmas.List.{append-nil, map-append}
 use Rattle.std.proofs.lemmas.List.Concat.{flat_map-append}
 use Rattle.std.proofs.lemmas.List.Elements.{All-nil, All-head, All-tail, All-cons}
-use Rattle.hot_model.specs.Values.{BodyValue, CellValue}
-use Rattle.hot_model.specs.Keys.{height}
-use Rattle.hot_model.specs.Trees.{is_empty, child, cell_record}
-use Rattle.hot_model.specs.World.{World, IsGood, piece, bodies_in, record_in}
-use Rattle.hot_model.specs.Branches.{IsBranch, parent}
-use Rattle.hot_model.specs.Needs.{is_away}
-use Rattle.hot_model.specs.Answers.{child_records, true_answer}
-use Rattle.hot_model.specs.Pairs.{PairValue, pair_with, MaySwap}
-use Rattle.hot_model.specs.declared.list.Answer.{Answer}
-use Rattle.hot_model.specs.declared.list.Answer.TheVariants.{Bodies, Children}
+use Rattle.hot_units.specs.Values.{BodyValue, CellValue}
+use Rattle.hot_units.specs.Keys.{height, child, parent}
+use Rattle.hot_units.proofs.Members.{all_members, head_has, tail_has, map_has}
+use Rattle.hot_model.specs.Trees.{is_empty, cell_record}
+use Rattle.hot_model.specs.declared.answer.Answer.{Answer}
+use Rattle.hot_model.specs.declared.answer.Answer.TheVariants.{Bodies, Children}
 use Rattle.hot_model.proofs.Parts.{inside-root}
-use Rattle.hot_model.proofs.Walks.{some_length, full_length}
-use Rattle.hot_model.proofs.Members.{all_members, head_has, tail_has, map_has}
-use Rattle.hot_model.proofs.Aways.{away_own}
-use Rattle.hot_model.proofs.Children.{child_record_is}
 use Rattle.hot_model.proofs.Fronts.{root_is_cell, parent_of_child}
-use Rattle.hot_model.proofs.Heights.{has_children, outer_of_away}
-use Rattle.hot_model.proofs.Steps.{record_some}
+use Rattle.hot_model.proofs.Walks.{some_length, full_length}
+use Rattle.hot_model.proofs.Heights.{has_children}
+use Rattle.rank_model.specs.World.{World, IsGood, piece, bodies_in, record_in}
+use Rattle.rank_model.specs.Branches.{IsBranch}
+use Rattle.rank_model.specs.Needs.{is_away}
+use Rattle.rank_model.specs.Answers.{child_records, true_answer}
+use Rattle.rank_model.specs.Pairs.{PairValue, pair_with, MaySwap}
+use Rattle.rank_model.proofs.Aways.{away_own}
+use Rattle.rank_model.proofs.Records.{child_record_is, record_some}
+use Rattle.rank_model.proofs.Levels.{outer_of_away}
 use Rattle.defer_walk.specs.declared.asks.Slot.{Slot}
 use Rattle.defer_walk.specs.declared.listed.Listed.{Listed}
 use Rattle.defer_walk.specs.declared.held.Held.{Held}

@@ -3,14 +3,15 @@ use Rattle.std.proofs.Common.{ℕ, zero, suc, ◌≡◌, ◌+◌, ◌<◌, ◌�
 use Rattle.std.specs.Prelude.{Result, Ok, Err, OnOk, Contains, ◌⊎◌, ◌↔◌, slice_get, if◌then◌else◌}
 use Rattle.std.proofs.lemmas.List.{append-nil, map-append, drop_all}
 use Rattle.std.proofs.lemmas.List.Elements.{All-head, All-tail, Contains-append_left, Contains-append_right, Contains-append_cases}
-use Rattle.hot_model.specs.Limits.{max_all_mass}
-use Rattle.hot_model.specs.Values.{BodyValue, CellValue}
-use Rattle.hot_model.specs.Trees.{Term, Far, Near, added, mass_of, mass_of_term}
-use Rattle.hot_model.specs.World.{World, IsGood, bodies_in, is_leaf}
-use Rattle.hot_model.specs.Needs.{outer_of}
-use Rattle.hot_model.specs.Answers.{child_records}
-use Rattle.hot_model.specs.Pairs.{PairValue, IsPair, pair_with, child_pairs, MaySwap}
-use Rattle.hot_model.proofs.Members.{nil_has}
+use Rattle.hot_units.specs.Limits.{max_all_mass}
+use Rattle.hot_units.specs.Values.{BodyValue, CellValue}
+use Rattle.hot_units.specs.Bodies.{mass_of}
+use Rattle.hot_units.proofs.Members.{nil_has}
+use Rattle.hot_model.specs.Trees.{Term, Far, Near, added, mass_of_term}
+use Rattle.rank_model.specs.World.{World, IsGood, bodies_in, is_leaf}
+use Rattle.rank_model.specs.Needs.{outer_of}
+use Rattle.rank_model.specs.Answers.{child_records}
+use Rattle.rank_model.specs.Pairs.{PairValue, IsPair, pair_with, child_pairs, MaySwap}
 use Rattle.defer_walk.specs.declared.asks.Slot.{Slot}
 use Rattle.defer_walk.specs.Asked.{asked_keys}
 use Rattle.defer_walk.specs.Settling.{IsOpened, Settles, now_opened}

@@ -5,25 +5,26 @@ use Rattle.std.proofs.Math.Nat.{suc-mul}
 use Rattle.std.proofs.lemmas.List.{append-nil, map-append, take_more, take_all, length-drop}
 use Rattle.std.proofs.lemmas.List.Concat.{flat_map-append}
 use Rattle.std.proofs.lemmas.List.Elements.{All-append, All-nil, All-head, All-tail, All-weaker, Contains-append_cases}
-use Rattle.hot_model.specs.Values.{BodyValue, CellValue}
-use Rattle.hot_model.specs.Keys.{IsCell, height}
-use Rattle.hot_model.specs.Trees.{cell_record, child, digits}
+use Rattle.hot_units.specs.Values.{BodyValue, CellValue}
+use Rattle.hot_units.specs.Keys.{IsCell, height, child, digits, parent}
+use Rattle.hot_units.proofs.Members.{has_map, nil_has}
+use Rattle.hot_model.specs.Trees.{cell_record}
 use Rattle.hot_model.proofs.Parts.{digits-at}
-use Rattle.hot_model.specs.World.{World, IsGood, piece, bodies_in, record_in}
-use Rattle.hot_model.specs.Branches.{IsBranch, parent}
-use Rattle.hot_model.specs.Needs.{part_of, is_away, Needs}
-use Rattle.hot_model.specs.Answers.{child_records, true_answer}
-use Rattle.hot_model.specs.Pairs.{PairValue, IsPair, pair_with, still_asked, MaySwap}
-use Rattle.hot_model.specs.declared.part.Part.TheVariants.{Away, Inner, Spread, Leaf}
-use Rattle.hot_model.proofs.Members.{has_map, nil_has}
-use Rattle.hot_model.proofs.Aways.{away-is, leaf-is, spread-is, inner-is, away_own, own_away}
-use Rattle.hot_model.proofs.Asks.{top_not_away, child_covers}
-use Rattle.hot_model.proofs.Owners.{one_owner, covered_own, top_is_high}
-use Rattle.hot_model.proofs.Fronts.{covers-self, child_cell, height_child}
-use Rattle.hot_model.proofs.Demands.{needs-are-asks}
-use Rattle.hot_model.proofs.Heights.{height_is, height_level, has_children}
-use Rattle.hot_model.proofs.Steps.{record_some, outer_own}
+use Rattle.hot_model.proofs.Fronts.{child_covers, covers-self, child_cell, height_child}
 use Rattle.hot_model.proofs.Walks.{some_length}
+use Rattle.hot_model.proofs.Heights.{height_is, height_level, has_children}
+use Rattle.rank_model.specs.World.{World, IsGood, piece, bodies_in, record_in}
+use Rattle.rank_model.specs.Branches.{IsBranch}
+use Rattle.rank_model.specs.Needs.{part_of, is_away, Needs}
+use Rattle.rank_model.specs.Answers.{child_records, true_answer}
+use Rattle.rank_model.specs.Pairs.{PairValue, IsPair, pair_with, still_asked, MaySwap}
+use Rattle.rank_model.specs.declared.part.Part.TheVariants.{Away, Inner, Spread, Leaf}
+use Rattle.rank_model.proofs.Owners.{one_owner, covered_own, top_is_high}
+use Rattle.rank_model.proofs.Aways.{away-is, leaf-is, spread-is, inner-is, away_own, own_away}
+use Rattle.rank_model.proofs.Asks.{top_not_away}
+use Rattle.rank_model.proofs.Demands.{needs-are-asks}
+use Rattle.rank_model.proofs.Records.{record_some}
+use Rattle.rank_model.proofs.Steps.{outer_own}
 use Rattle.defer_walk.specs.declared.asks.Slot.{Slot}
 use Rattle.defer_walk.specs.declared.listed.Listed.{Listed}
 use Rattle.defer_walk.specs.Asked.{asked_keys, stored_at, Grows, Extends}

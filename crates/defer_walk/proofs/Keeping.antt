@@ -6,13 +6,13 @@ use Rattle.std.proofs.lemmas.Option.{slice_get_within, get_or_from_slice_get}
 use Rattle.std.proofs.lemmas.List.{append-nil, length-append, length-set}
 use Rattle.std.proofs.lemmas.List.Elements.{All-append, All-nil, All-cons, All-head, All-tail, All-weaker, Contains-append_left, Contains-append_right, Contains-append_cases}
 use Rattle.std.proofs.lemmas.List.Sums.{sum_by-append, sum_by-cons}
-use Rattle.hot_model.specs.Values.{BodyValue}
+use Rattle.hot_units.specs.Values.{BodyValue}
+use Rattle.hot_units.proofs.Members.{nil_has}
 use Rattle.hot_model.specs.Trees.{Term, added}
-use Rattle.hot_model.specs.World.{World}
-use Rattle.hot_model.specs.Pairs.{PairValue, IsPair, rest_of, still_opened, still_asked, rests_at, MaySwap}
-use Rattle.hot_model.proofs.Members.{nil_has}
-use Rattle.hot_model.proofs.Swaps.{added-exchange, rests-append}
 use Rattle.hot_model.proofs.Walks.{added-append}
+use Rattle.rank_model.specs.World.{World}
+use Rattle.rank_model.specs.Pairs.{PairValue, IsPair, rest_of, still_opened, still_asked, rests_at, MaySwap}
+use Rattle.rank_model.proofs.Swaps.{added-exchange, rests-append}
 use Rattle.defer_walk.specs.declared.asks.Slot.{Slot}
 use Rattle.defer_walk.specs.Asked.{asked_keys}
 use Rattle.defer_walk.specs.Settling.{Settles, now_opened}

@@ -11,7 +11,7 @@ use Rattle.std.proofs.lemmas.Bool.{cases_eq, ne_eqb, eq-eqb}
 use Rattle.std.proofs.lemmas.List.{append-nil, length-append}
 use Rattle.std.proofs.lemmas.List.Concat.{flat_map-append}
 use Rattle.std.proofs.lemmas.List.Elements.{All-nil, All-cons, All-append}
-use Rattle.hot_model.specs.declared.list.Answer.{Answer}
+use Rattle.hot_model.specs.declared.answer.Answer.{Answer}
 use Rattle.defer_walk.specs.declared.asks.Slot.{Slot}
 use Rattle.defer_walk.specs.declared.asks.AskedCell.{AskedCell}
 use Rattle.defer_walk.specs.declared.held.Held.{Held}

@@ -2,15 +2,15 @@
 use Rattle.std.proofs.Common.{ℕ, ◌≡◌, ◌≢◌, ◌<◌, List, length, sym, ◌∙◌, subst, arith}
 use Rattle.std.specs.Prelude.{Bool, All, eqb}
 use Rattle.std.proofs.lemmas.Bool.{eqb-true}
-use Rattle.hot_model.specs.Values.{BodyValue, CellValue}
-use Rattle.hot_model.specs.World.{World, IsGood, rank_of, bodies_in}
-use Rattle.hot_model.specs.Branches.{IsOfRank}
-use Rattle.hot_model.specs.Needs.{Needs}
-use Rattle.hot_model.proofs.Aways.{away-is}
-use Rattle.hot_model.proofs.Digits.{cell-pos}
-use Rattle.hot_model.proofs.Members.{has_filter, some_member}
-use Rattle.hot_model.proofs.Owners.{own_of_owned}
+use Rattle.hot_units.specs.Values.{BodyValue, CellValue}
+use Rattle.hot_units.proofs.Digits.{cell-pos}
+use Rattle.hot_units.proofs.Members.{has_filter, some_member}
 use Rattle.hot_model.proofs.Parts.{inside-root}
+use Rattle.rank_model.specs.World.{World, IsGood, rank_of, bodies_in}
+use Rattle.rank_model.specs.Branches.{IsOfRank}
+use Rattle.rank_model.specs.Needs.{Needs}
+use Rattle.rank_model.proofs.Owners.{own_of_owned}
+use Rattle.rank_model.proofs.Aways.{away-is}
 use Rattle.defer_walk.specs.declared.asks.Slot.{Slot}
 use Rattle.defer_walk.specs.Standing.{VisitOf, IsAsk, IsRemote}
 use Rattle.defer_walk.proofs.Turnings.{All-has}

@@ -7,23 +7,25 @@ use Rattle.std.proofs.lemmas.Option.{slice_get_cases, slice_get_within, get_or_f
 use Rattle.std.proofs.lemmas.List.{append-nil}
 use Rattle.std.proofs.lemmas.List.Elements.{All-nil, All-map}
 use Rattle.std.proofs.lemmas.List.Sums.{sum_by-cons}
-use Rattle.hot_model.specs.Values.{BodyValue, CellValue}
-use Rattle.hot_model.specs.Keys.{height}
-use Rattle.hot_model.specs.Trees.{Term, Far, Near, added, listed, mass_of, mass_of_body}
-use Rattle.hot_model.specs.World.{World, IsGood, bodies_in, is_leaf}
-use Rattle.hot_model.specs.Needs.{part_of, is_away, itself, outer_of}
-use Rattle.hot_model.specs.Answers.{child_records, true_answer}
-use Rattle.hot_model.specs.Pairs.{PairValue, IsPair, rest_of, still_asked, still_opened, pair_with, child_pairs}
-use Rattle.hot_model.specs.declared.list.Answer.TheVariants.{Bodies, Children}
-use Rattle.hot_model.specs.declared.part.Part.TheVariants.{Spread}
-use Rattle.hot_model.proofs.Members.{all_members, has_map, head_has}
-use Rattle.hot_model.proofs.Children.{child_record_is}
-use Rattle.hot_model.proofs.Owners.{top_is_high}
-use Rattle.hot_model.proofs.Asks.{top_not_away}
+use Rattle.hot_units.specs.Values.{BodyValue, CellValue}
+use Rattle.hot_units.specs.Keys.{height}
+use Rattle.hot_units.specs.Bodies.{mass_of, mass_of_body}
+use Rattle.hot_units.proofs.Members.{all_members, has_map, head_has}
+use Rattle.hot_model.specs.Trees.{Term, Far, Near, added, listed}
+use Rattle.hot_model.specs.declared.answer.Answer.TheVariants.{Bodies, Children}
 use Rattle.hot_model.proofs.Walks.{some_length}
-use Rattle.hot_model.proofs.Aways.{spread-is}
-use Rattle.hot_model.proofs.Heights.{height_is, has_children, outer_of_away}
-use Rattle.hot_model.proofs.Steps.{record_some, rest_far, rest_leaf, rest_parted, opened_far, opened_leaf, opened_parted, asked_far, asked_leaf, asked_parted, whole_parted, whole_asked, children_are, children_lighter}
+use Rattle.hot_model.proofs.Heights.{height_is, has_children}
+use Rattle.rank_model.specs.World.{World, IsGood, bodies_in, is_leaf}
+use Rattle.rank_model.specs.Needs.{part_of, is_away, itself, outer_of}
+use Rattle.rank_model.specs.Answers.{child_records, true_answer}
+use Rattle.rank_model.specs.Pairs.{PairValue, IsPair, rest_of, still_asked, still_opened, pair_with, child_pairs}
+use Rattle.rank_model.specs.declared.part.Part.TheVariants.{Spread}
+use Rattle.rank_model.proofs.Owners.{top_is_high}
+use Rattle.rank_model.proofs.Aways.{spread-is}
+use Rattle.rank_model.proofs.Asks.{top_not_away}
+use Rattle.rank_model.proofs.Records.{child_record_is, record_some}
+use Rattle.rank_model.proofs.Levels.{outer_of_away}
+use Rattle.rank_model.proofs.Steps.{rest_far, rest_leaf, rest_parted, opened_far, opened_leaf, opened_parted, asked_far, asked_leaf, asked_parted, whole_parted, whole_asked, children_are, children_lighter}
 use Rattle.defer_walk.specs.Settling.{IsOpened, IsChildOf, Settles, now_opened}
 
 -- a pair of the world has bodies, and its record has their number and mass

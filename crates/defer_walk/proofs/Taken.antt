@@ -3,14 +3,14 @@ use Rattle.std.proofs.Common.{ℕ, ◌≡◌, Bool, List, [], ◌∷◌, ◌++�
 use Rattle.std.specs.Prelude.{All, Contains, IsSome, ◌⊎◌}
 use Rattle.std.proofs.lemmas.List.{append-nil, map-append}
 use Rattle.std.proofs.lemmas.List.Elements.{All-append, All-nil, All-head, All-tail, All-cons, All-weaker}
-use Rattle.hot_model.specs.Values.{BodyValue}
-use Rattle.hot_model.specs.World.{World}
-use Rattle.hot_model.specs.Pairs.{PairValue, MaySwap}
-use Rattle.hot_model.proofs.Members.{all_members, map_has}
+use Rattle.hot_units.specs.Values.{BodyValue}
+use Rattle.hot_units.proofs.Members.{all_members, map_has}
+use Rattle.hot_model.specs.declared.answer.Answer.{Answer}
+use Rattle.rank_model.specs.World.{World}
+use Rattle.rank_model.specs.Pairs.{PairValue, MaySwap}
 use Rattle.defer_walk.specs.declared.asks.Slot.{Slot}
 use Rattle.defer_walk.specs.declared.listed.Listed.{Listed}
 use Rattle.defer_walk.specs.declared.held.Held.{Held}
-use Rattle.hot_model.specs.declared.list.Answer.{Answer}
 use Rattle.defer_walk.specs.Asked.{stored_at, Extends}
 use Rattle.defer_walk.specs.Tallies.{TallyValue}
 use Rattle.defer_walk.specs.Grouping.{listed_as, listed_of, all_listed}

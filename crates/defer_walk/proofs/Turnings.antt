@@ -4,21 +4,22 @@ use Rattle.std.specs.Prelude.{All, Contains, slice_get, sum_by}
 use Rattle.std.proofs.Math.Nat.{mul-le-mul_left, mul-le-mul_right}
 use Rattle.std.proofs.lemmas.Option.{slice_get-get_or}
 use Rattle.std.proofs.lemmas.List.Sums.{sum_by-append}
-use Rattle.hot_model.specs.Limits.{max_bodies, max_all_mass}
-use Rattle.hot_model.specs.Values.{BodyValue}
-use Rattle.hot_model.specs.Keys.{IsCell, height}
-use Rattle.hot_model.specs.Trees.{Term, mass_of, mass_of_term, terms, child}
-use Rattle.hot_model.specs.World.{World, IsGood, piece, bodies_in}
-use Rattle.hot_model.specs.Branches.{IsBranch}
-use Rattle.hot_model.specs.Needs.{part_of, is_away}
-use Rattle.hot_model.specs.Pairs.{PairValue, IsPair, rest_of, rests_at}
-use Rattle.hot_model.specs.declared.part.Part.TheVariants.{Away}
+use Rattle.hot_units.specs.Limits.{max_bodies, max_all_mass}
+use Rattle.hot_units.specs.Values.{BodyValue}
+use Rattle.hot_units.specs.Keys.{IsCell, height, child}
+use Rattle.hot_units.specs.Bodies.{mass_of}
+use Rattle.hot_model.specs.Trees.{Term, mass_of_term, terms}
 use Rattle.hot_model.proofs.Ties.{mass-listed, mass-terms, mass-all_terms}
 use Rattle.hot_model.proofs.Walks.{seen-added}
-use Rattle.hot_model.proofs.Aways.{away-is, foreign_away}
-use Rattle.hot_model.proofs.Asks.{away_child}
 use Rattle.hot_model.proofs.Heights.{height_is, height_level}
-use Rattle.hot_model.proofs.Swaps.{rests-append}
+use Rattle.rank_model.specs.World.{World, IsGood, piece, bodies_in}
+use Rattle.rank_model.specs.Branches.{IsBranch}
+use Rattle.rank_model.specs.Needs.{part_of, is_away}
+use Rattle.rank_model.specs.Pairs.{PairValue, IsPair, rest_of, rests_at}
+use Rattle.rank_model.specs.declared.part.Part.TheVariants.{Away}
+use Rattle.rank_model.proofs.Aways.{away-is, foreign_away}
+use Rattle.rank_model.proofs.Asks.{away_child}
+use Rattle.rank_model.proofs.Swaps.{rests-append}
 use Rattle.defer_walk.specs.declared.asks.Slot.{Slot}
 use Rattle.defer_walk.specs.Settling.{IsChildOf}
 use Rattle.defer_walk.specs.Tallies.{TallyValue}

@@ -1,15 +1,16 @@
 -- What a deferred walk holds, and what it means that it stands for a world.
 use Rattle.std.specs.Prelude.{ℕ, zero, suc, ◌≡◌, ◌≢◌, ◌+◌, ◌<◌, ◌≤◌, Bool, true, false, List, [], ◌∷◌, ◌++◌, length, map, take, sum_by, All, Contains, Option, Some, None, IfSome, IsSome, slice_get, ◌⊎◌, if◌then◌else◌}
-use Rattle.hot_model.specs.Values.{BodyValue, CellValue}
-use Rattle.hot_model.specs.Keys.{IsCell}
-use Rattle.hot_model.specs.Trees.{Term, mass_of_term, mass_of, added, fold_of, opened, cell_record}
-use Rattle.hot_model.specs.World.{World, IsGood, piece, bodies_in}
-use Rattle.hot_model.specs.Branches.{IsBranch, parent}
-use Rattle.hot_model.specs.Needs.{Needs, part_of, asks}
-use Rattle.hot_model.specs.Answers.{true_answer}
-use Rattle.hot_model.specs.Pairs.{PairValue, IsPair, pair_with, rest_of, still_opened, still_asked, rests_at}
-use Rattle.hot_model.specs.declared.list.Answer.{Answer}
-use Rattle.hot_model.specs.declared.part.Part.TheVariants.{Away}
+use Rattle.hot_units.specs.Values.{BodyValue, CellValue}
+use Rattle.hot_units.specs.Keys.{IsCell, parent}
+use Rattle.hot_units.specs.Bodies.{mass_of}
+use Rattle.hot_model.specs.Trees.{Term, mass_of_term, added, fold_of, opened, cell_record}
+use Rattle.hot_model.specs.declared.answer.Answer.{Answer}
+use Rattle.rank_model.specs.World.{World, IsGood, piece, bodies_in}
+use Rattle.rank_model.specs.Branches.{IsBranch}
+use Rattle.rank_model.specs.Needs.{Needs, part_of, asks}
+use Rattle.rank_model.specs.Answers.{true_answer}
+use Rattle.rank_model.specs.Pairs.{PairValue, IsPair, pair_with, rest_of, still_opened, still_asked, rests_at}
+use Rattle.rank_model.specs.declared.part.Part.TheVariants.{Away}
 use Rattle.defer_walk.specs.declared.asks.Slot.{Slot}
 use Rattle.defer_walk.specs.declared.progress.Progress.{Progress}
 use Rattle.defer_walk.specs.declared.progress.Progress.TheVariants.{Done, Waiting}

@@ -1,9 +1,10 @@
 ghost use Rattle.std.specs.Prelude.{◌≡◌, ◌≢◌, ℕ, ◌+◌, ◌-◌, ◌<◌, ◌≤◌, ◌^◌, Bool, false, true, List};
-ghost use Rattle.std.specs.Prelude.{[], ◌∷◌, ◌++◌, Some, IfOk, OnOk, length, All, Contains, vec_capacity};
-ghost use Rattle.hot_model.specs.Limits.{max_all_mass};
-ghost use Rattle.hot_model.specs.World.{World, IsGood, record_in, piece as piece_of};
-ghost use Rattle.hot_model.specs.Answers.{true_answer};
-ghost use Rattle.hot_model.specs.Pairs.{PairValue, pair_with};
+ghost use Rattle.std.specs.Prelude.{[], ◌∷◌, ◌++◌, Some, IfOk, OnOk, length, All, Contains};
+ghost use Rattle.std.specs.Prelude.{vec_capacity};
+ghost use Rattle.hot_units.specs.Limits.{max_all_mass};
+ghost use Rattle.rank_model.specs.World.{World, IsGood, record_in, piece as piece_of};
+ghost use Rattle.rank_model.specs.Answers.{true_answer};
+ghost use Rattle.rank_model.specs.Pairs.{PairValue, pair_with};
 ghost use Rattle.defer_walk.specs.declared.asks.Slot.{Slot};
 ghost use Rattle.defer_walk.specs.Asked.{stored_at, Extends};
 ghost use Rattle.defer_walk.specs.Grouping.{group, by_children, AreOpened, listed_of, all_listed};
@@ -17,7 +18,8 @@ use crate::cells::Cells;
 use crate::groups::{descend, descend_all, near_group, note_all};
 use crate::held::{Held, list_places};
 use crate::tally::Tally;
-use hot_model::{Answer, Body, CellRec, Seen, Visit};
+use hot_model::{Answer, CellRec, Seen, Visit};
+use hot_units::Body;
 use std::alloc::{AllocError, Global};
 
 /// So many bodies at most go down the tree together, so that their places stay few and near.

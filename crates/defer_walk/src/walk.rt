@@ -3,11 +3,12 @@ ghost use Rattle.std.specs.Prelude.{Some, None, IfOk, OnOk, OnErr, IsErr, IfSome
 ghost use Rattle.std.specs.Prelude.{IsTrue, ◌⊎◌, ◌↔◌, length, map, sum_by, drop, All, Contains};
 ghost use Rattle.std.specs.Prelude.{slice_get};
 ghost use Rattle.std.specs.List.Sorted.{IsStrictlyIncreasing};
-ghost use Rattle.hot_model.specs.Values.{BodyValue};
-ghost use Rattle.hot_model.specs.World.{World, IsGood, piece as piece_of};
-ghost use Rattle.hot_model.specs.Branches.{IsBranch, IsOwner, parent};
-ghost use Rattle.hot_model.specs.Needs.{Needs, needed};
-ghost use Rattle.hot_model.specs.Answers.{true_answer};
+ghost use Rattle.hot_units.specs.Values.{BodyValue};
+ghost use Rattle.hot_units.specs.Keys.{parent};
+ghost use Rattle.rank_model.specs.World.{World, IsGood, piece as piece_of};
+ghost use Rattle.rank_model.specs.Branches.{IsBranch, IsOwner};
+ghost use Rattle.rank_model.specs.Needs.{Needs, needed};
+ghost use Rattle.rank_model.specs.Answers.{true_answer};
 ghost use Rattle.defer_walk.specs.Asked.{asked_keys, filled, Extends};
 ghost use Rattle.defer_walk.specs.Standing.{StandsFor, Waits, IsSameWalk, IsSameStage, IsNewAsk};
 ghost use Rattle.defer_walk.specs.Standing.{IsRemote, IsProgress, given_of, answer_of, meaning};
@@ -18,7 +19,8 @@ use crate::cells::Cells;
 use crate::progress::{Ask, Progress, WalkResult, progress_of};
 use crate::stages::{go_on, nothing_added};
 use crate::tally::Tally;
-use hot_model::{Answered, Body, Visit};
+use hot_model::{Answered, Visit};
+use hot_units::Body;
 use std::alloc::{AllocError, Global};
 use std::marker::Model;
 

@@ -1,10 +1,10 @@
 // Sets of bodies: which rows are refused, and the order by key.
 ghost use Rattle.std.specs.Prelude.{◌≤◌};
-ghost use Rattle.hot_model.specs.Limits.{fine_bits};
+ghost use Rattle.hot_units.specs.Limits.{fine_bits};
 
 use crate::samples::row_at;
 use body_set::{BodySet, PushError};
-use hot_model::{Axis, Cube};
+use hot_units::{Axis, Cube};
 use std::process::Abort;
 
 fn cube_at(bits: u32, corner: i128) -> Cube

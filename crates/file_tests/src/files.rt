@@ -1,8 +1,9 @@
 // Files and the answers to them.
 use body_file::{BodyFault, FileFault, ReadError, read_bodies};
-use body_set::{BodySet, Ordered};
+use body_set::BodySet;
 use hot_io::MemSource;
-use hot_model::Axis;
+use hot_units::Axis;
+use key_order::Ordered;
 use sdf_header::{ColName, HeaderFault};
 use sdf_rows::RowFault;
 use std::alloc::Global;

@@ -4,7 +4,7 @@ ghost use Rattle.force_out.specs.Idents.{IsIdent};
 
 use force_out::{force_sdf, force_text, values_come_back};
 use hot_io::MemSink;
-use hot_model::Acc3;
+use hot_units::Acc3;
 use std::alloc::Global;
 use std::process::Abort;
 

@@ -1,7 +1,7 @@
 // Bodies made from a number, as a set and as a file.
 use body_maker::{sample_bodies, write_made};
 use hot_io::MemSink;
-use round_runner::{drawn, next_state};
+use hot_units::{drawn, next_state};
 use std::alloc::Global;
 use std::process::Abort;
 

@@ -1,10 +1,11 @@
 // What the ranks of a walk do, by filters over the list of all bodies and the list of all cells.
 ghost use Rattle.std.specs.Prelude.{◌≡◌};
-ghost use Rattle.hot_model.specs.Keys as keys;
+ghost use Rattle.hot_units.specs.Keys as keys;
 
-use body_set::Ordered;
 use fixed_kernel::ForceVisit;
-use hot_model::{Body, CellRec, Visit, covers};
+use hot_model::{CellRec, Visit};
+use hot_units::{Body, covers};
+use key_order::Ordered;
 use moments::{add, empty, of_body};
 use morton_key::is_cell;
 use rank_walk::Sharing;

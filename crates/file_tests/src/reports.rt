@@ -1,16 +1,16 @@
 // The report of two bodies on two ranks, worked by hand: the root is a leaf that both ranks share,
 // so each body opens it and needs the branch of the other rank.
 use crate::samples::{Row, set_of};
-use body_set::Ordered;
 use fixed_kernel::{Eps, ForceVisit, Ratio};
 use hot_io::MemSink;
-use hot_model::{Acc3, Mail};
+use hot_units::{Acc3, Mail};
+use key_order::Ordered;
 use rank_walk::{Found, Sharing, walk_over_ranks};
-use round_runner::{MemWire, OpenGate, Wire};
 use run_report::{RunReport, Sample, report_text, sample_text};
 use std::alloc::Global;
 use std::process::Abort;
 use std::thread::Threads;
+use wire::{MemWire, OpenGate, Wire};
 
 /// What is told with prompt mail.
 const REPORT: &[u8] =

@@ -1,6 +1,7 @@
 // Rows of body files: numbers of each type, and which rows and faults small files have.
+use hot_units::RawRow;
 use sdf_header::{HeaderReader, Layout, Order};
-use sdf_rows::{RawRow, RowFault, RowStep, Rows};
+use sdf_rows::{RowFault, RowStep, Rows};
 use std::alloc::{AllocError, Global};
 use std::process::Abort;
 

@@ -1,7 +1,7 @@
 // Rows and sets of bodies for the tests of the crates that take them.
-use body_set::{BodySet, Ordered};
-use hot_model::Cube;
-use sdf_rows::RawRow;
+use body_set::BodySet;
+use hot_units::{Cube, RawRow};
+use key_order::Ordered;
 use std::alloc::Global;
 use std::process::Abort;
 

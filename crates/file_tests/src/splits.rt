@@ -1,6 +1,6 @@
 // How bodies are split over ranks: ranges, weights and neighbouring keys.
 use crate::samples::{Row, set_of};
-use body_set::Ordered;
+use key_order::Ordered;
 use std::alloc::Global;
 use std::process::Abort;
 use std::test::Fail;

@@ -4,7 +4,7 @@ ghost use Rattle.sdf_rows.specs.Columns.{Is64Bits};
 
 use crate::steps::{Row, state_of};
 use hot_io::MemSink;
-use hot_model::Axis;
+use hot_units::Axis;
 use state_file::{
     files_have_states, files_undo, past_range, state_header_reads, states_read_back, write_state,
 };

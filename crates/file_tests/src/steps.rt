@@ -1,11 +1,11 @@
 // Steps of the leapfrog by the plain engine.
 ghost use Rattle.std.specs.Prelude.{◌≡◌, ◌≤◌, ◌*◌, ◌^◌, length, All, IsTrue, ◌+◌};
-ghost use Rattle.hot_model.specs.Trees.{mass_of};
-ghost use Rattle.hot_model.specs.Limits.{max_body_mass};
+ghost use Rattle.hot_units.specs.Limits.{max_body_mass};
+ghost use Rattle.hot_units.specs.Bodies.{mass_of};
 ghost use Rattle.leap_frog.specs.Leap as leap;
 ghost use Rattle.leap_frog.specs.States.{IsWithin, max_speed, vector_of};
 
-use hot_model::{Axis, body_of};
+use hot_units::{Axis, body_of};
 use leap_frog::{State, StepRefused, StepsRefused, steps_undo};
 use plain_engine::PlainEngine;
 use std::alloc::Global;

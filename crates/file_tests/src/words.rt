@@ -1,5 +1,5 @@
 // Word lists, read and refused.
-use hot_model::Mail;
+use hot_units::Mail;
 use hot_words::{Command, Job, WordCode, WordFault, WordList, read_words, refusal};
 use std::alloc::{AllocError, Global};
 use std::process::Abort;

@@ -4,16 +4,17 @@ ghost use Rattle.std.specs.Prelude.{◌<◌, ◌^◌};
 use crate::plain::{Plain, plain_of};
 use crate::reports::{ran, visit_of};
 use crate::samples::{CUBE, row_at};
-use body_set::{BodySet, Ordered};
-use hot_model::{Acc3, ForceEngine, Mail};
+use body_set::BodySet;
+use hot_model::ForceEngine;
+use hot_units::{Acc3, Mail, RawRow, drawn, next_state};
+use key_order::Ordered;
 use plain_engine::PlainEngine;
 use rank_walk::{Effort, Found, Sharing};
-use round_runner::{MemWire, Wire, drawn, next_state};
 use run_report::RunReport;
-use sdf_rows::RawRow;
 use std::alloc::Global;
 use std::process::Abort;
 use std::thread::Threads;
+use wire::{MemWire, Wire};
 
 /// How many worlds are tried.
 const WORLDS: u32 = 300;

@@ -1,7 +1,7 @@
 -- What `far` and `near` leave.
 use Rattle.std.proofs.Common.{ℕ, Bool, ◌≡◌, ◌+◌, List, ℤ, pos, ◌+ℤ◌, slice_index_or, refl}
-use Rattle.hot_model.specs.Values.{BodyValue, CellValue, Acc3Value, place}
-use Rattle.hot_model.specs.Kernel.{pull, point_at, components, coordinates}
+use Rattle.hot_units.specs.Values.{BodyValue, CellValue, Acc3Value, place, point_at, components, coordinates}
+use Rattle.hot_model.specs.Kernel.{pull}
 use Rattle.hot_model.specs.Trees.{Far, Near, pull_far}
 use Rattle.hot_model.specs.Forces.{gravity_adds, term_pull}
 

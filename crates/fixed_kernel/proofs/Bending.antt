@@ -1,9 +1,9 @@
 -- The pull of second moments by the numbers that code has.
 use Rattle.std.proofs.Common.{ℕ, ◌≡◌, ◌*◌, ◌^◌, ◌<◌, ◌≤◌, List, [], ◌∷◌, ℤ, pos, sym, refl, ap, ◌∙◌, arith}
-use Rattle.hot_model.specs.Values.{CellValue, Point}
-use Rattle.hot_model.specs.Keys.{side, extent}
-use Rattle.hot_model.specs.Kernel.{centre, root, square, distance2, soft2, pull, plus, point_at, vector_at, coordinates, components, IsPullBy}
+use Rattle.hot_units.specs.Values.{CellValue, Point, point_at, vector_at, coordinates, components}
+use Rattle.hot_units.specs.Keys.{side, extent}
 use Rattle.hot_model.specs.Facts.{IsCellRecord}
+use Rattle.hot_model.specs.Kernel.{centre, root, square, distance2, soft2, pull, plus, IsPullBy}
 use Rattle.hot_model.specs.Second.{heading, quad, quad_over, quadrupole, most_heading, most_scaled, most_quad, AreSmall, IsSmall}
 use Rattle.hot_model.proofs.Second.{quad-near, quad-far, quad-small, soft-above, far-off, direction-small, quadrupole-small, are-small, pair-fits}
 

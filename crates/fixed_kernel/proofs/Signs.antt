@@ -3,11 +3,11 @@ use Rattle.std.proofs.Common.{ℕ, List, get_or, refl, ℤ, pos, ◌*ℤ◌, ◌
 use Rattle.std.proofs.lemmas.Int.{ints, to_z-of_z}
 use mir.Syntax.{w128}
 use mir.Val.{SFits, of_z, to_z}
-use Rattle.hot_model.specs.Values.{CellValue, Products}
-use Rattle.hot_model.specs.Kernel.{centre, coordinates}
+use Rattle.hot_units.specs.Values.{CellValue, Products, coordinates}
+use Rattle.hot_units.proofs.Signed.{fits_small}
 use Rattle.hot_model.specs.Facts.{IsCellRecord}
+use Rattle.hot_model.specs.Kernel.{centre}
 use Rattle.hot_model.specs.Second.{trunc, spread_along, spread}
-use Rattle.hot_model.proofs.Signed.{fits_small}
 use Rattle.hot_model.proofs.Second.{abs-times, trunc-small, same_products}
 
 -- a product as it is stored

@@ -2,7 +2,7 @@
 use Rattle.std.specs.Prelude.{ℕ, Bool, ◌+◌, ◌≡◌, ℤ, ◌+ℤ◌}
 use Rattle.std.proofs.Common.{refl, sym, ap, ◌∙◌, add_assoc, add_comm}
 use lib.IntN.{+ℤ_assoc, +ℤ_comm}
-use Rattle.hot_model.specs.Values.{BodyValue, Acc3Value}
+use Rattle.hot_units.specs.Values.{BodyValue, Acc3Value}
 use Rattle.hot_model.specs.Trees.{Term, mass_of_term}
 use Rattle.hot_model.specs.Forces.{gravity_adds, term_pull}
 use Rattle.hot_model.proofs.Ties.{ap4}

@@ -1,7 +1,7 @@
 -- Pulls and directions at a softened squared distance.
 use Rattle.std.specs.Prelude.{ℕ, ◌*◌, ◌^◌, ℤ, List}
-use Rattle.hot_model.specs.Values.{Point}
-use Rattle.hot_model.specs.Kernel.{root, pull_over, components}
+use Rattle.hot_units.specs.Values.{Point, components}
+use Rattle.hot_model.specs.Kernel.{root, pull_over}
 use Rattle.hot_model.specs.Second.{heading}
 
 -- the root of a softened squared distance, in units of 2^-10

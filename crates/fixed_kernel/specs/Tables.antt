@@ -1,6 +1,6 @@
 -- The six numbers of a symmetric table.
 use Rattle.std.specs.Prelude.{ℤ}
-use Rattle.hot_model.specs.Values.{Products}
+use Rattle.hot_units.specs.Values.{Products}
 
 -- a number for each two axes
 abbrev pub products_of : ℤ → ℤ → ℤ → ℤ → ℤ → ℤ → Products

@@ -1,6 +1,6 @@
 -- The visit of gravity as contracts see it.
 use Rattle.std.specs.Prelude.{ℕ, Bool}
-use Rattle.hot_model.specs.Values.{BodyValue, Acc3Value}
+use Rattle.hot_units.specs.Values.{BodyValue, Acc3Value}
 use Rattle.hot_model.specs.Trees.{Term}
 use Rattle.hot_model.specs.Forces.{gravity_adds}
 use Rattle.fixed_kernel.specs.Ratio.{RatioValue}

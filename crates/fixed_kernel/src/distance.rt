@@ -1,8 +1,9 @@
 // Squared distances of places.
 ghost use Rattle.std.specs.Prelude.{◌≡◌, ◌≤◌, ◌<◌, ◌^◌, ◌+◌, ◌*◌};
-ghost use Rattle.hot_model.specs.Limits.{fine_bits};
+ghost use Rattle.hot_units.specs.Limits.{fine_bits};
+ghost use Rattle.hot_units.specs.Values.{point_at};
 ghost use Rattle.hot_model.specs.Kernel as kernel;
-ghost use Rattle.hot_model.specs.Kernel.{point_at, InCube};
+ghost use Rattle.hot_model.specs.Kernel.{InCube};
 
 use crate::Eps;
 

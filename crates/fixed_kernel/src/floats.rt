@@ -1,7 +1,7 @@
 //! What floats suggest for the whole numbers of the kernel. Nothing is promised of a hint: who
 //! takes one tests it.
 ghost use Rattle.std.specs.Prelude.{◌<◌, ◌≤◌, ◌^◌};
-ghost use Rattle.hot_model.specs.Limits.{max_all_mass};
+ghost use Rattle.hot_units.specs.Limits.{max_all_mass};
 
 use std::num::nearest_u64_to_f64;
 

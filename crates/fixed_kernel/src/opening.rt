@@ -1,12 +1,14 @@
 // Where a cell counts, and whether it counts as one source.
 ghost use Rattle.std.specs.Prelude.{◌≡◌, ◌<◌};
+ghost use Rattle.hot_units.specs.Values.{coordinates, point_at};
+ghost use Rattle.hot_units.specs.Keys.{IsInBox};
 ghost use Rattle.hot_model.specs.Kernel as kernel;
-ghost use Rattle.hot_model.specs.Kernel.{coordinates, point_at, InCube};
-ghost use Rattle.hot_model.specs.Keys.{IsInBox};
+ghost use Rattle.hot_model.specs.Kernel.{InCube};
 
 use crate::Ratio;
 use crate::distance::distance2;
-use hot_model::{Body, CellRec, covers, level};
+use hot_model::CellRec;
+use hot_units::{Body, covers, level};
 
 /// The centre of mass of a cell that is not empty, rounded down on each axis: three fine
 /// coordinates, a place in the cell. It takes no memory.

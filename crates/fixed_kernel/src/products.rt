@@ -1,8 +1,8 @@
 // The six numbers of a symmetric table, and the steps from a cell's second sums to its quadrupole.
 ghost use Rattle.std.specs.Prelude.{◌≡◌, ◌≤◌, ◌<◌, ◌^◌, ◌*◌, ◌/◌, ◌+◌, ◌-◌};
 ghost use Rattle.std.specs.Prelude.{◌+ℤ◌, ◌-ℤ◌, ◌*ℤ◌, pos, nat_abs};
-ghost use Rattle.hot_model.specs.Limits.{fine_bits, max_all_mass};
-ghost use Rattle.hot_model.specs.Kernel.{vector_at, components};
+ghost use Rattle.hot_units.specs.Limits.{fine_bits, max_all_mass};
+ghost use Rattle.hot_units.specs.Values.{vector_at, components};
 ghost use Rattle.hot_model.specs.Second as second;
 ghost use Rattle.hot_model.specs.Second.{AreSmall, IsSmall, most_heading};
 
@@ -24,7 +24,7 @@ pub struct Products {
 }
 
 impl Model for Products {
-    ghost use Rattle.hot_model.specs.Values as values;
+    ghost use Rattle.hot_units.specs.Values as values;
     ghost use Rattle.fixed_kernel.specs.Tables.{products_of};
 
     ghost Value = { values.Products };

@@ -1,9 +1,10 @@
 // The pull of a mass. Where bounds of it have the same quotients, these are it. Elsewhere quotients
 // are guessed and tested, and there is a division where a guess fails.
 ghost use Rattle.std.specs.Prelude.{IfSome, IsTrue, ◌↔◌, ◌-◌, ◌≡◌, ◌/◌, ◌≤◌, ◌<◌, ◌^◌, ◌*◌};
-ghost use Rattle.hot_model.specs.Limits.{fine_bits, max_all_mass};
+ghost use Rattle.hot_units.specs.Limits.{fine_bits, max_all_mass};
+ghost use Rattle.hot_units.specs.Values.{point_at, components};
 ghost use Rattle.hot_model.specs.Kernel as kernel;
-ghost use Rattle.hot_model.specs.Kernel.{point_at, components, InCube, IsPullBy};
+ghost use Rattle.hot_model.specs.Kernel.{InCube, IsPullBy};
 ghost use Rattle.fixed_kernel.specs.Softened.{divisor_of, softened_pull, point};
 ghost use Rattle.fixed_kernel.specs.Tried.{MayTry};
 

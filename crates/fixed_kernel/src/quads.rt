@@ -1,9 +1,10 @@
 // The pull of a cell's second moments.
 ghost use Rattle.std.specs.Prelude.{◌≡◌, ◌≤◌, ◌<◌, ◌^◌, ◌*◌, ◌*ℤ◌, pos, nat_abs};
-ghost use Rattle.hot_model.specs.Limits.{fine_bits};
-ghost use Rattle.hot_model.specs.Keys.{IsCell, side, extent};
+ghost use Rattle.hot_units.specs.Limits.{fine_bits};
+ghost use Rattle.hot_units.specs.Values.{point_at, vector_at, components, coordinates};
+ghost use Rattle.hot_units.specs.Keys.{IsCell, side, extent};
 ghost use Rattle.hot_model.specs.Kernel as kernel;
-ghost use Rattle.hot_model.specs.Kernel.{point_at, vector_at, components, coordinates, InCube};
+ghost use Rattle.hot_model.specs.Kernel.{InCube};
 ghost use Rattle.hot_model.specs.Second as second;
 ghost use Rattle.hot_model.specs.Second.{IsSmall, most_heading, most_quad};
 ghost use Rattle.fixed_kernel.specs.Softened.{softened_heading};
@@ -17,8 +18,9 @@ use crate::pulls::toward;
 use crate::quotients::{short_quotient, trunc_by};
 use crate::roots::root_by;
 use crate::{Eps, centre};
-use hot_model::limits::FINE_BITS;
-use hot_model::{CellRec, level};
+use hot_model::CellRec;
+use hot_units::level;
+use hot_units::limits::FINE_BITS;
 
 /// The square of the side of a cell.
 #[tactic(auto, using(crate::proofs::Hints::on_side))]

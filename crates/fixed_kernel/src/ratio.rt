@@ -1,8 +1,8 @@
 ghost use Rattle.std.specs.Prelude.{◌≡◌, ◌≤◌, ◌↔◌, IsSome, IfSome};
-ghost use Rattle.hot_model.specs.Limits.{max_ratio};
+ghost use Rattle.hot_units.specs.Limits.{max_ratio};
 ghost use Rattle.fixed_kernel.specs.Ratio.{reach_of};
 
-use hot_model::limits::MAX_RATIO;
+use hot_units::limits::MAX_RATIO;
 use std::marker::Model;
 
 /// The opening ratio `num / den` of the walk: a cell is taken whole where its side is less than the
@@ -19,7 +19,7 @@ pub struct Ratio {
 
 impl Model for Ratio {
     ghost use Rattle.std.specs.Prelude.{◌≤◌, ◌≡◌};
-    ghost use Rattle.hot_model.specs.Limits.{max_ratio};
+    ghost use Rattle.hot_units.specs.Limits.{max_ratio};
     ghost use Rattle.fixed_kernel.specs.Ratio.{RatioValue, reach_of};
 
     ghost Value = { RatioValue };

@@ -1,7 +1,7 @@
 ghost use Rattle.std.specs.Prelude.{◌≡◌, ◌≤◌, ◌↔◌, IsSome, IfSome};
-ghost use Rattle.hot_model.specs.Limits.{max_softening};
+ghost use Rattle.hot_units.specs.Limits.{max_softening};
 
-use hot_model::limits::MAX_SOFTENING;
+use hot_units::limits::MAX_SOFTENING;
 use std::marker::Model;
 
 /// The softening length of gravity, in fine units (Plummer softening: its square is added to each
@@ -15,7 +15,7 @@ pub struct Eps {
 
 impl Model for Eps {
     ghost use Rattle.std.specs.Prelude.{ℕ, ◌≤◌};
-    ghost use Rattle.hot_model.specs.Limits.{max_softening};
+    ghost use Rattle.hot_units.specs.Limits.{max_softening};
 
     ghost Value = { ℕ };
 

@@ -1,12 +1,13 @@
 ghost use Rattle.std.specs.Prelude.{◌≡◌, ◌≤◌, ◌<◌, ◌↔◌, ◌+◌, ◌+ℤ◌, ◌*◌, ◌^◌};
 ghost use Rattle.std.specs.Prelude.{not, pos, slice_index_or, nat_abs, IsSome, IfSome, true, false};
-ghost use Rattle.hot_model.specs.Limits.{max_all_mass};
+ghost use Rattle.hot_units.specs.Limits.{max_all_mass};
+ghost use Rattle.hot_units.specs.Values.{components, vector_at};
 ghost use Rattle.hot_model.specs.Kernel as kernel;
-ghost use Rattle.hot_model.specs.Kernel.{components, vector_at, IsPullBy};
+ghost use Rattle.hot_model.specs.Kernel.{IsPullBy};
 ghost use Rattle.hot_model.specs.Second.{IsSmall};
 ghost use Rattle.hot_model.specs.Trees as trees;
-ghost use Rattle.hot_model.specs.Forces.{gravity_adds, untouched};
 ghost use Rattle.hot_model.specs.Trees.{Near, Far};
+ghost use Rattle.hot_model.specs.Forces.{gravity_adds, untouched};
 ghost use Rattle.fixed_kernel.specs.Additions.{gravity_sees, gravity_swaps};
 ghost use Rattle.fixed_kernel.specs.Visit.{visit_of, after_term};
 
@@ -14,7 +15,8 @@ use crate::distance::{distance2, softened};
 use crate::pulls::pull_softened;
 use crate::quads::quad_softened;
 use crate::{Eps, Ratio, accepts, centre, pull};
-use hot_model::{Acc3, Body, CellRec, Seen, Visit};
+use hot_model::{CellRec, Seen, Visit};
+use hot_units::{Acc3, Body};
 use std::alloc::{AllocError, Global};
 use std::marker::Model;
 

@@ -5,7 +5,7 @@ use Rattle.std.specs.List.{zip}
 use Rattle.std.specs.Fmt.{signed_decimal}
 use Rattle.hot_io.specs.Writing.{line_end, Passes}
 use Rattle.hot_io.proofs.Blocks.{SendsFront, passes_more, cut_before}
-use Rattle.hot_model.specs.Values.{Acc3Value}
+use Rattle.hot_units.specs.Values.{Acc3Value}
 use Rattle.force_out.specs.ForcesText.{number_line}
 
 -- the words and numbers of a body's line

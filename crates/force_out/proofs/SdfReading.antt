@@ -6,7 +6,7 @@ use mir.Syntax.{w64, w128}
 use Rattle.std.specs.Int.{cast_unsigned}
 use Rattle.byteorder.specs.Endian.{little_bytes, little_number, twos_complement}
 use Rattle.byteorder.specs.Numbers.{little_number-reads_back}
-use Rattle.hot_model.specs.Values.{Acc3Value}
+use Rattle.hot_units.specs.Values.{Acc3Value}
 use Rattle.force_out.specs.ForcesSdf.{high_half, low_half, body_row, body_rows, header, forces_sdf}
 use Rattle.force_out.specs.SdfReader.{value_of, row_place, TellsBody, Are128Bits}
 use Rattle.force_out.proofs.Halves.{halves-join, high_half-fits, twos_complement-back, unsigned-fits}

@@ -3,7 +3,7 @@ use Rattle.std.specs.Prelude.{◌≡◌, ◌<◌, ◌^◌, ◌+ℤ◌, ◌*ℤ�
 use Rattle.std.specs.List.{zip}
 use Rattle.std.specs.Int.{w64, cast_unsigned, int_div_euclid, int_rem_euclid}
 use Rattle.byteorder.specs.Endian.{little_bytes}
-use Rattle.hot_model.specs.Values.{Acc3Value}
+use Rattle.hot_units.specs.Values.{Acc3Value}
 
 -- two columns hold a value: it is hi * 2^64 + lo, and lo is below 2^64
 pub record AreHalves (value hi : ℤ) (lo : ℕ) : Type 0 where

@@ -3,7 +3,7 @@ use Rattle.std.specs.Prelude.{◌≡◌, ◌+◌, ◌*◌, ◌^◌, ◌↔◌, �
 use Rattle.std.specs.List.{slice_get}
 use Rattle.std.specs.Int.{w128}
 use Rattle.byteorder.specs.Endian.{little_number, twos_complement}
-use Rattle.hot_model.specs.Values.{Acc3Value}
+use Rattle.hot_units.specs.Values.{Acc3Value}
 use Rattle.force_out.specs.ForcesSdf.{AreHalves, high_half, low_half, header, forces_sdf}
 
 -- the value of the two columns that begin these bytes: a signed and an unsigned number, joined

@@ -8,7 +8,7 @@ ghost use Rattle.force_out.specs.SdfReader.{HasOneParting, TellsAllBodies};
 
 use byteorder::{ByteOrder, LittleEndian};
 use hot_io::{BLOCK, Block, Failed, Sink};
-use hot_model::Acc3;
+use hot_units::Acc3;
 
 /// What the high half of a value counts: 2^64.
 const HIGH_UNIT: i128 = 1 << 64;

@@ -6,7 +6,7 @@ ghost use Rattle.force_out.specs.Idents.{IsIdent};
 ghost use Rattle.force_out.specs.ForcesText as text;
 
 use hot_io::{BLOCK, Block, Failed, Sink};
-use hot_model::Acc3;
+use hot_units::Acc3;
 
 /// The most bytes of a line: four numbers, and a byte behind each.
 const LINE: usize = 164;

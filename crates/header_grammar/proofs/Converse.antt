@@ -3,7 +3,7 @@ use Rattle.std.proofs.Common.{◌≡◌, ℕ, suc, ◌+◌, ◌*◌, ◌≤◌, 
 use Rattle.std.specs.Prelude.{if◌then◌else◌, is_some, codes, nat_lt, ◌==◌}
 use Rattle.std.proofs.lemmas.Bool.{cases_Bool, le-leb}
 use Rattle.std.proofs.lemmas.List.{length-append}
-use Rattle.hot_model.specs.Limits.{max_columns, max_row_bytes}
+use Rattle.hot_units.specs.Limits.{max_columns, max_row_bytes}
 use Rattle.sdf_tokens.specs.declared.fault.FaultKind.{FaultKind}
 use Rattle.sdf_tokens.specs.declared.fault.FaultKind.TheVariants as faults
 use Rattle.sdf_header.specs.declared.kind.Kind.{Kind}

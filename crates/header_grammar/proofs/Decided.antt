@@ -4,7 +4,7 @@ use Rattle.std.specs.Prelude.{option_and_then, is_some, codes, nat_lt, ◌==◌}
 use Rattle.std.specs.Str.{bytes_eq}
 use Rattle.std.proofs.lemmas.List.{append-nil}
 use Rattle.std.proofs.lemmas.Slice.Eq.{bytes_eq-Decides}
-use Rattle.hot_model.specs.Limits.{max_columns, max_row_bytes}
+use Rattle.hot_units.specs.Limits.{max_columns, max_row_bytes}
 use Rattle.sdf_tokens.specs.declared.fault.Fault.{Fault}
 use Rattle.sdf_tokens.specs.declared.fault.FaultKind.{FaultKind}
 use Rattle.sdf_tokens.specs.declared.fault.FaultKind.TheVariants as faults

@@ -14,7 +14,7 @@ use Rattle.sdf_header.specs.declared.kind.Kind.{Kind}
 use Rattle.sdf_header.specs.declared.document.Value.{Value}
 use Rattle.sdf_header.specs.declared.document.Value.TheVariants as values
 use Rattle.sdf_header.specs.declared.layout.Col.{Col}
-use Rattle.hot_model.specs.Limits.{max_header_bytes}
+use Rattle.hot_units.specs.Limits.{max_header_bytes}
 use Rattle.sdf_header.specs.Layouts.{LayoutValue}
 use Rattle.sdf_header.specs.Parts.{Names}
 use Rattle.sdf_header.specs.Fields.{Field}

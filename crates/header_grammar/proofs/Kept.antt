@@ -3,7 +3,7 @@ use Rattle.std.proofs.Common.{◌≡◌, ℕ, true, false, cond, ◌&&◌, inl, 
 use Rattle.std.specs.Prelude.{option_and_then, is_some, codes, ◌==◌}
 use Rattle.std.specs.Str.{bytes_eq}
 use Rattle.std.proofs.lemmas.List.{append-nil}
-use Rattle.hot_model.specs.Limits.{max_columns}
+use Rattle.hot_units.specs.Limits.{max_columns}
 use Rattle.sdf_tokens.specs.declared.fault.FaultKind.{FaultKind}
 use Rattle.sdf_tokens.specs.declared.fault.FaultKind.TheVariants as faults
 use Rattle.sdf_header.specs.declared.kind.Kind.{Kind}

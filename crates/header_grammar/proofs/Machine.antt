@@ -2,7 +2,7 @@
 use Rattle.std.proofs.Common.{ℕ, ◌+◌, ◌*◌, Bool, true, false, ◌&&◌, List, [], ◌∷◌, ◌++◌, length, Option, Some, None, Result, Ok, Err}
 use Rattle.std.specs.Prelude.{option_and_then, if◌then◌else◌, is_some, codes, nat_lt, ◌==◌}
 use Rattle.std.specs.Str.{bytes_eq}
-use Rattle.hot_model.specs.Limits.{max_columns, max_row_bytes}
+use Rattle.hot_units.specs.Limits.{max_columns, max_row_bytes}
 use Rattle.sdf_tokens.specs.declared.fault.FaultKind.{FaultKind}
 use Rattle.sdf_tokens.specs.declared.fault.FaultKind.TheVariants as faults
 use Rattle.sdf_header.specs.declared.kind.Kind.{Kind}

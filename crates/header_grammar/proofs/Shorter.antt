@@ -3,7 +3,7 @@ use Rattle.std.proofs.Common.{◌≡◌, ℕ, zero, suc, ◌<◌, ◌≤◌, Boo
 use Rattle.std.specs.Prelude.{if◌then◌else◌, is_some, codes, ◌==◌}
 use Rattle.std.specs.Str.{bytes_eq}
 use Rattle.std.proofs.lemmas.Bool.{cases_Bool}
-use Rattle.hot_model.specs.Limits.{max_columns}
+use Rattle.hot_units.specs.Limits.{max_columns}
 use Rattle.sdf_tokens.specs.declared.fault.Fault.{Fault}
 use Rattle.sdf_header.specs.declared.kind.Kind.{Kind}
 use Rattle.sdf_header.specs.declared.document.Value.{Value}

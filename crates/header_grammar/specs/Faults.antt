@@ -1,6 +1,6 @@
 -- The token that decides a fault of the text, by the tokens before it and behind it.
 use Rattle.std.specs.Prelude.{◌≡◌, ℕ, ◌+◌, ◌*◌, true, false, List, [], ◌∷◌, ◌++◌, ◌⊎◌, length, Option, Some, is_some, nat_lt, ◌==◌, codes}
-use Rattle.hot_model.specs.Limits.{max_columns, max_row_bytes}
+use Rattle.hot_units.specs.Limits.{max_columns, max_row_bytes}
 use Rattle.sdf_tokens.specs.declared.fault.FaultKind.{FaultKind}
 use Rattle.sdf_tokens.specs.declared.fault.FaultKind.TheVariants as faults
 use Rattle.sdf_tokens.specs.Tokens.{Lexeme}

@@ -3,7 +3,7 @@
 use Rattle.std.specs.Prelude.{◌≡◌, ℕ, ◌+◌, ◌*◌, ◌<◌, ◌≤◌, ◌^◌, Bool, true, false, ◌&&◌, List, [], ◌∷◌, ◌++◌, length, map, Option, Some, None, is_some, pos, nat_lt, ◌==◌, if◌then◌else◌, codes}
 use Rattle.std.specs.Bool.{beq}
 use Rattle.std.specs.Str.{bytes_eq}
-use Rattle.hot_model.specs.Limits.{max_columns, max_row_bytes}
+use Rattle.hot_units.specs.Limits.{max_columns, max_row_bytes}
 use Rattle.sdf_header.specs.declared.kind.Kind.{Kind}
 use Rattle.sdf_header.specs.declared.kind.Kind.TheVariants as kinds
 use Rattle.sdf_header.specs.declared.kind.Whole.TheVariants as wholes

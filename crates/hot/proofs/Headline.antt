@@ -1,12 +1,12 @@
 -- What a run that came to its end has asked for.
 use Rattle.std.proofs.Common.{ℕ, ◌≡◌, ◌≤◌, ◌+◌, Bool, true, List, [], ◌∷◌, Contains, ◌⊎◌, ◌↔◌, Some, refl, ap, sym, ◌∙◌, subst, inl, inr, arith}
-use Rattle.hot_model.specs.Needs.{Needs, needed}
-use Rattle.hot_model.proofs.Counts.{needed-are}
-use Rattle.round_runner.specs.declared.entry.Note.{Note}
-use Rattle.round_runner.specs.declared.entry.Entry.{Entry}
-use Rattle.round_runner.specs.declared.entry.Entry.TheVariants.{Posted, Taken, Round}
-use Rattle.round_runner.specs.Desk.{Desk}
-use Rattle.round_runner.specs.Notes.{note_of}
+use Rattle.rank_model.specs.Needs.{Needs, needed}
+use Rattle.rank_model.proofs.Counts.{needed-are}
+use Rattle.cell_mail.specs.declared.note.Note.{Note}
+use Rattle.wire.specs.declared.entry.Entry.{Entry}
+use Rattle.wire.specs.declared.entry.Entry.TheVariants.{Posted, Taken, Round}
+use Rattle.wire.specs.Desk.{Desk}
+use Rattle.cell_mail.specs.Notes.{note_of}
 use Rattle.rank_core.specs.Times.{times}
 use Rattle.protocol.specs.Counts.{in_letters, in_posted, asks_by}
 use Rattle.protocol.proofs.Keeping.{asks_exactly}

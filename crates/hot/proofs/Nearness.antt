@@ -5,10 +5,11 @@ use Rattle.std.proofs.lemmas.Bool.{leb-true}
 use Rattle.std.proofs.lemmas.List.{length-map, get_or-map}
 use Rattle.hot_io.specs.Reading.{Reading, unread, unopened, unfinished, ended, broken}
 use Rattle.hot_io.specs.Writing.{IsWhole}
-use Rattle.hot_model.specs.Limits.{max_softening}
-use Rattle.hot_model.specs.Values.{BodyValue, Acc3Value}
-use Rattle.hot_model.specs.declared.cube.Axis.TheVariants as axes
-use Rattle.hot_model.specs.Trees.{force, mass_of}
+use Rattle.hot_units.specs.Limits.{max_softening}
+use Rattle.hot_units.specs.Values.{BodyValue, Acc3Value}
+use Rattle.hot_units.specs.Bodies.{mass_of}
+use Rattle.hot_units.specs.declared.cube.Axis.TheVariants as axes
+use Rattle.hot_model.specs.Trees.{force}
 use Rattle.hot_model.specs.Forces.{whole}
 use Rattle.pull_bound.proofs.Forces.{force-near}
 use Rattle.body_set.specs.Sets.{SetValue}

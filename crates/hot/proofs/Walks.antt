@@ -3,19 +3,21 @@ use Rattle.std.proofs.Common.{ℕ, ◌≡◌, ◌≤◌, Bool, true, false, not,
 use Rattle.std.specs.Prelude.{◌⊎◌, ◌==◌}
 use Rattle.std.specs.declared.alloc.AllocError.{AllocError}
 use Rattle.std.proofs.lemmas.List.{length-map}
-use Rattle.hot_model.specs.Values.{BodyValue, CellValue, Acc3Value}
-use Rattle.hot_model.specs.Trees.{mass_of, force}
-use Rattle.hot_model.specs.Forces.{RowsCount, whole, gravity_adds, untouched}
+use Rattle.hot_units.specs.Values.{BodyValue, CellValue, Acc3Value}
+use Rattle.hot_units.specs.Order.{ordered}
+use Rattle.hot_units.specs.Bodies.{mass_of, RowsCount}
+use Rattle.hot_units.specs.declared.mail.Mail.{Mail}
+use Rattle.hot_units.proofs.Members.{map_same}
 use Rattle.hot_model.specs.Kernel.{accepts}
-use Rattle.fixed_kernel.specs.Visit.{VisitValue}
-use Rattle.hot_model.specs.World.{World}
-use Rattle.hot_model.specs.Order.{ordered}
-use Rattle.hot_model.specs.declared.mail.Mail.{Mail}
-use Rattle.hot_model.proofs.Homes.{map_same}
+use Rattle.hot_model.specs.Trees.{force}
+use Rattle.hot_model.specs.Forces.{whole, gravity_adds, untouched}
 use Rattle.hot_model.proofs.Ties.{fold-is-force}
-use Rattle.body_set.specs.Sets.{SetValue, OrderedValue, in_key_order}
-use Rattle.round_runner.specs.declared.entry.Entry.{Entry}
-use Rattle.round_runner.specs.Desk.{Desk, rounds_in, letters_in}
+use Rattle.rank_model.specs.World.{World}
+use Rattle.fixed_kernel.specs.Visit.{VisitValue}
+use Rattle.body_set.specs.Sets.{SetValue, in_key_order}
+use Rattle.key_order.specs.Ordered.{OrderedValue}
+use Rattle.wire.specs.declared.entry.Entry.{Entry}
+use Rattle.wire.specs.Desk.{Desk, rounds_in, letters_in}
 use Rattle.defer_walk.specs.Standing.{VisitOf, meaning, fold_in}
 use Rattle.rank_set.specs.declared.found.Effort.{Effort}
 use Rattle.rank_set.specs.declared.sharing.Sharing.{Sharing}

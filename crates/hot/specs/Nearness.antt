@@ -1,7 +1,7 @@
 -- How near the printed forces are to exact gravity, at ratio 0.
 use Rattle.std.specs.Prelude.{ℕ, ◌≡◌, ◌<◌, List, length, get_or, Ok}
-use Rattle.hot_model.specs.Values.{BodyValue, Acc3Value}
-use Rattle.hot_model.specs.declared.cube.Axis.TheVariants as axes
+use Rattle.hot_units.specs.Values.{BodyValue, Acc3Value}
+use Rattle.hot_units.specs.declared.cube.Axis.TheVariants as axes
 use Rattle.hot_io.specs.Reading.{ended}
 use Rattle.hot_io.specs.Writing.{IsWhole}
 use Rattle.pull_bound.specs.Sums.{IsNearAlong}

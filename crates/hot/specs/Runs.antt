@@ -1,15 +1,15 @@
 -- Runs over ranks, and what they leave on the wire.
 use Rattle.std.specs.Prelude.{ℕ, ◌≡◌, ◌≤◌, ◌↔◌, ◌==◌, Bool, true, List, [], ◌∷◌, ◌++◌, length, Contains, Option, Some, None}
-use Rattle.hot_model.specs.Values.{BodyValue, CellValue}
+use Rattle.hot_units.specs.Values.{BodyValue, CellValue}
+use Rattle.hot_units.specs.Order.{ordered}
 use Rattle.hot_model.specs.Trees.{Settings, opens_of}
-use Rattle.hot_model.specs.World.{World}
-use Rattle.hot_model.specs.Split.{weight_in, split_world}
-use Rattle.hot_model.specs.Order.{ordered}
-use Rattle.hot_model.specs.Needs.{Needs, round_bound}
+use Rattle.rank_model.specs.World.{World}
+use Rattle.rank_model.specs.Split.{weight_in, split_world}
+use Rattle.rank_model.specs.Needs.{Needs, round_bound}
 use Rattle.cell_mail.specs.Letters.{LetterValue}
-use Rattle.round_runner.specs.declared.entry.Entry.{Entry}
-use Rattle.round_runner.specs.declared.entry.Entry.TheVariants.{Posted, Taken, Round}
-use Rattle.round_runner.specs.Desk.{Desk, letters_in, rounds_in}
+use Rattle.wire.specs.declared.entry.Entry.{Entry}
+use Rattle.wire.specs.declared.entry.Entry.TheVariants.{Posted, Taken, Round}
+use Rattle.wire.specs.Desk.{Desk, letters_in, rounds_in}
 use Rattle.rank_core.specs.Times.{times}
 use Rattle.rank_core.specs.Seat.{asked_by}
 use Rattle.body_set.specs.Sets.{SetValue}

@@ -1,7 +1,7 @@
 // Runs over ranks, and what is printed of them.
 ghost use Rattle.std.specs.Prelude.{◌≡◌, ◌≤◌, ◌==◌, ℕ, List, [], Some, All, IfOk};
-ghost use Rattle.hot_model.specs.Limits.{max_bodies};
-ghost use Rattle.hot_model.specs.Forces.{RowsCount};
+ghost use Rattle.hot_units.specs.Limits.{max_bodies};
+ghost use Rattle.hot_units.specs.Bodies.{RowsCount};
 ghost use Rattle.sdf_rows.specs.Columns.{Is64Bits};
 ghost use Rattle.body_file.specs.Files.{HasBodies};
 ghost use Rattle.body_maker.specs.Made.{made_set};
@@ -13,15 +13,16 @@ ghost use Rattle.hot.specs.Prepared.{ComputeLeaves};
 
 use crate::answer::Forces;
 use body_maker::sample_bodies;
-use body_set::{BodySet, Ordered};
+use body_set::BodySet;
 use fixed_kernel::ForceVisit;
-use hot_model::Acc3;
+use hot_units::Acc3;
 use hot_words::Job;
+use key_order::Ordered;
 use rank_walk::{Found, Sharing, place_by_row, walk_over_ranks};
-use round_runner::{Gate, Wire};
 use run_report::{RunReport, Sample};
 use std::alloc::{AllocError, Global};
 use std::thread::Threads;
+use wire::{Gate, Wire};
 
 /// What a run gives: the bodies in key order, the forces on them in the order of their rows, and
 /// the report, where it is asked for.

@@ -1,19 +1,18 @@
 -- Cells as boxes: the corner and the side, and what sums of bodies in a box keep.
-use Rattle.std.proofs.Common.{ℕ, zero, suc, ◌≡◌, ◌+◌, ◌-◌, ◌*◌, ◌/◌, ◌%◌, ◌^◌, ◌<◌, ◌≤◌, Bool, true, false, cond, List, [], ◌∷◌, length, filter, sum_by, sym, refl, ap, ◌∙◌, subst, inl, inr, arith}
-use Rattle.std.specs.Prelude.{All}
+use Rattle.std.proofs.Common.{ℕ, zero, suc, ◌≡◌, ◌+◌, ◌-◌, ◌*◌, ◌/◌, ◌^◌, ◌<◌, ◌≤◌, Bool, true, false, cond, List, [], ◌∷◌, length, sum_by, sym, refl, ap, ◌∙◌, subst, inl, inr, arith}
 use Rattle.std.proofs.Math.Nat.{pow-succ', div-div-eq-div-mul, div-mul-le_self, lt-div-mul-add, div-le_of_le-mul}
-use Rattle.std.proofs.lemmas.Bool.{cases_lt}
 use Rattle.std.proofs.lemmas.Nat.{mul-le, le-div, pow-add, pow_pos, div_below}
+use Rattle.std.specs.Prelude.{All}
 use Rattle.std.proofs.lemmas.List.Sums.{sum_by-cons}
 use Rattle.std.proofs.lemmas.List.Elements.{All-head, All-tail, All-filter, All-cons}
-use Rattle.hot_model.specs.Limits.{max_all_mass}
-use Rattle.hot_model.specs.Values.{BodyValue, CellValue, cell_of}
-use Rattle.hot_model.specs.Keys.{bit, digit, key_to, key_of_body, HasLevel, IsCell, level, covers, contains, side, bits_along, corner_along, corner, extent, IsInBox}
+use Rattle.std.proofs.lemmas.Bool.{cases_lt}
+use Rattle.hot_units.specs.Limits.{max_all_mass}
+use Rattle.hot_units.specs.Values.{BodyValue, cell_of, CellValue}
+use Rattle.hot_units.specs.Keys.{bit, key_to, bits_along, IsCell, level, contains, side, corner, extent, covers, corner_along, IsInBox, HasLevel, key_of_body}
+use Rattle.hot_units.specs.Bodies.{mass_of, mass_of_body, IsBody}
+use Rattle.hot_units.proofs.Digits.{digit-le, key_to-suc, bit-le, level-has, level-le, key_to-low, key_to-high}
 use Rattle.hot_model.specs.Facts.{IsFirstSum, IsSecondSum, IsCellRecord}
-use Rattle.hot_model.specs.Trees.{mass_of, mass_of_body, record_of, cell_record, inside}
-use Rattle.hot_model.specs.World.{IsBody}
-use Rattle.hot_model.proofs.Digits.{bit-le, digit-le, key_to-suc, key_to-low, key_to-high, level-is, level-has, level-le}
-use Rattle.hot_model.proofs.Parts.{eighth, contains-is}
+use Rattle.hot_model.specs.Trees.{record_of, cell_record, inside}
 use Rattle.hot_model.proofs.Fronts.{covers_level, covers_front, contains_front, front_contains}
 
 -- the highest bits of a coordinate

@@ -1,17 +1,17 @@
 -- The sizes of the second-order pull, from what a record keeps.
-use Rattle.std.proofs.Common.{ℕ, zero, suc, ◌≡◌, ◌+◌, ◌-◌, ◌*◌, ◌/◌, ◌^◌, ◌<◌, ◌≤◌, Bool, true, false, cond, leb, ltb, sym, refl, ap, ◌∙◌, subst, inl, inr, arith, ℤ, pos, negsuc, ◌+ℤ◌, ◌-ℤ◌, ◌*ℤ◌, neg_ℤ, nat_abs}
+use Rattle.std.proofs.Common.{ℕ, zero, suc, ◌≡◌, ◌+◌, ◌-◌, ◌*◌, ◌/◌, ◌^◌, ◌<◌, ◌≤◌, true, false, ltb, refl, ap, inl, inr, arith, ℤ, pos, negsuc, ◌+ℤ◌, ◌-ℤ◌, ◌*ℤ◌, neg_ℤ, nat_abs}
 use Rattle.std.proofs.Math.Nat.{div-le_of_le-mul, le_of_mul-le-mul_left, div-mul-le_self, lt-div-mul-add, pow-le-pow_right}
-use Rattle.std.proofs.lemmas.Bool.{cases_lt, lt-ltb, le-ltb}
-use Rattle.std.proofs.lemmas.Nat.{mul-le, le-div, pow_pos}
+use Rattle.std.proofs.lemmas.Nat.{mul-le, le-div}
 use Rattle.std.proofs.lemmas.Int.{ints, unsigned_abs-mul}
-use Rattle.hot_model.specs.Values.{CellValue, Point, Vector, Products}
-use Rattle.hot_model.specs.Keys.{IsCell, level, side, corner, extent}
-use Rattle.hot_model.specs.Kernel.{centre, root, apart, square, distance2, soft2, divisor, toward, pull, pull_along, origin, plus}
+use Rattle.std.proofs.lemmas.Bool.{cases_lt, lt-ltb, le-ltb}
+use Rattle.hot_units.specs.Values.{CellValue, Products, Vector, Point}
+use Rattle.hot_units.specs.Keys.{corner, extent, IsCell, level, side}
+use Rattle.hot_units.proofs.Digits.{level-le}
+use Rattle.hot_units.proofs.Signed.{nat_abs-plus-le}
 use Rattle.hot_model.specs.Facts.{IsFirstSum, IsSecondSum, IsCellRecord}
+use Rattle.hot_model.specs.Kernel.{centre, root, apart, square, distance2, soft2, pull, pull_along, origin, plus}
 use Rattle.hot_model.specs.Second.{trunc, spread_along, spread, trace, diagonal, traceless, scaled_along, scaled, heading_along, heading, dot3, times, bent_along, part_along, bent, quadrupole, quad_over, toward_centre, quad, most_spread, most_traceless, most_scaled, most_heading, most_turned, most_dot, most_part, most_quad, AreSmall, IsSmall}
-use Rattle.hot_model.proofs.Digits.{level-le}
-use Rattle.hot_model.proofs.Pulls.{distance2-is, soft2-is, soft2-above, soft2-x, soft2-y, soft2-z, root-above, nat_abs-toward, divisor-is, pull-small-x, pull-small-y, pull-small-z}
-use Rattle.hot_model.proofs.Signed.{nat_abs-plus-le}
+use Rattle.hot_model.proofs.Pulls.{distance2-is, soft2-is, soft2-x, soft2-y, soft2-z, root-above, nat_abs-toward, divisor-is, pull-small-x, pull-small-y, pull-small-z}
 
 nat_abs-neg : (n : ℕ) → nat_abs (neg_ℤ (pos n)) ≡ n
 nat_abs-neg zero = refl

@@ -1,13 +1,11 @@
 -- A walk below a cell meets the bodies of that cell alone.
 use Rattle.std.proofs.Common.{ℕ, zero, suc, ◌≡◌, ◌-◌, ◌<◌, ◌≤◌, Bool, true, false, List, [], ◌∷◌, sym, refl, ap, ◌∙◌, subst, arith}
-use Rattle.hot_model.specs.Values.{BodyValue, CellValue}
-use Rattle.hot_model.specs.Keys.{HasLevel, IsCell, covers, contains}
-use Rattle.hot_model.specs.Trees.{inside, child, digits, terms_in}
+use Rattle.hot_units.specs.Values.{BodyValue, CellValue}
+use Rattle.hot_units.specs.Keys.{IsCell, covers, contains, HasLevel, child, digits}
+use Rattle.hot_units.proofs.Members.{flat_same, have_digits}
+use Rattle.hot_model.specs.Trees.{inside, terms_in}
 use Rattle.hot_model.proofs.Parts.{child-level}
-use Rattle.hot_model.proofs.Fronts.{covers-contains, covers-trans}
-use Rattle.hot_model.proofs.Asks.{child_covers}
-use Rattle.hot_model.proofs.Heights.{flat_same}
-use Rattle.hot_model.proofs.Members.{have_digits}
+use Rattle.hot_model.proofs.Fronts.{covers-contains, covers-trans, child_covers}
 
 -- the bodies of a cell among those of a cell that covers it
 pub inside-within : (bodies : List BodyValue) (c k : ℕ) → IsCell c → IsCell k → covers c k ≡ true → inside (inside bodies c) k ≡ inside bodies k

@@ -1,8 +1,8 @@
 -- What every cell record keeps.
 use Rattle.std.specs.Prelude.{ℕ, ◌+◌, ◌*◌, ◌≤◌}
-use Rattle.hot_model.specs.Limits.{max_all_mass}
-use Rattle.hot_model.specs.Values.{CellValue}
-use Rattle.hot_model.specs.Keys.{IsCell, corner, extent}
+use Rattle.hot_units.specs.Limits.{max_all_mass}
+use Rattle.hot_units.specs.Values.{CellValue}
+use Rattle.hot_units.specs.Keys.{IsCell, corner, extent}
 
 -- a sum of mass times a coordinate from k to k + w
 pub record IsFirstSum (mass k w s : ℕ) : Type 0 where

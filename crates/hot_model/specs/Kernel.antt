@@ -1,8 +1,8 @@
 -- The fixed-point kernel: centre, root, pull and the opening test.
-use Rattle.std.specs.Prelude.{ℕ, zero, suc, ◌+◌, ◌-◌, ◌*◌, ◌/◌, ◌^◌, ◌<◌, ◌≤◌, Bool, cond, leb, ltb, not, ◌&&◌, ℤ, pos, neg_ℤ, ◌+ℤ◌, List, [], ◌∷◌, slice_index, slice_index_or, nat_abs}
-use Rattle.hot_model.specs.Limits.{fine_bits}
-use Rattle.hot_model.specs.Values.{BodyValue, CellValue, Point, Vector, place}
-use Rattle.hot_model.specs.Keys.{contains, side}
+use Rattle.std.specs.Prelude.{ℕ, zero, suc, ◌+◌, ◌-◌, ◌*◌, ◌/◌, ◌^◌, ◌<◌, ◌≤◌, Bool, cond, leb, ltb, not, ◌&&◌, ℤ, pos, neg_ℤ, ◌+ℤ◌, List, slice_index, slice_index_or, nat_abs}
+use Rattle.hot_units.specs.Limits.{fine_bits}
+use Rattle.hot_units.specs.Values.{CellValue, Point, Vector, BodyValue, place}
+use Rattle.hot_units.specs.Keys.{contains, side}
 
 -- the centre of mass, rounded down
 abbrev pub centre : CellValue → Point
@@ -69,22 +69,6 @@ origin = record { x = pos 0; y = pos 0; z = pos 0 }
 -- the sum of two vectors
 abbrev pub plus : Vector → Vector → Vector
 plus a b = record { x = a.x +ℤ b.x; y = a.y +ℤ b.y; z = a.z +ℤ b.z }
-
--- an array of three as a place
-abbrev pub point_at : List ℕ → Point
-point_at p = record { x = slice_index p 0; y = slice_index p 1; z = slice_index p 2 }
-
--- an array of three as a vector
-abbrev pub vector_at : List ℤ → Vector
-vector_at v = record { x = slice_index_or v 0 (pos 0); y = slice_index_or v 1 (pos 0); z = slice_index_or v 2 (pos 0) }
-
--- the three components of a vector
-abbrev pub components : Vector → List ℤ
-components v = v.x ∷ v.y ∷ v.z ∷ []
-
--- the three coordinates of a place
-abbrev pub coordinates : Point → List ℕ
-coordinates p = p.x ∷ p.y ∷ p.z ∷ []
 
 -- a place in the cube
 abbrev pub InCube : List ℕ → Type 0

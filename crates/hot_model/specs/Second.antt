@@ -1,7 +1,7 @@
 -- Second moments: the pull of a cell's quadrupole about its centre.
 use Rattle.std.specs.Prelude.{ℕ, ◌+◌, ◌*◌, ◌/◌, ◌^◌, ◌≤◌, ltb, ℤ, pos, ◌+ℤ◌, ◌-ℤ◌, ◌*ℤ◌, int_div, nat_abs, if◌then◌else◌}
-use Rattle.hot_model.specs.Values.{CellValue, Point, Vector, Products}
-use Rattle.hot_model.specs.Keys.{side}
+use Rattle.hot_units.specs.Values.{CellValue, Products, Point, Vector}
+use Rattle.hot_units.specs.Keys.{side}
 use Rattle.hot_model.specs.Kernel.{centre, root, apart, square, distance2, soft2, toward, origin}
 
 -- the quotient without its fraction

@@ -1,22 +1,15 @@
 -- The recursive walk of the tree over a list of bodies.
-use Rattle.std.specs.Prelude.{Option, Some, None, ℕ, zero, suc, ◌+◌, ◌*◌, Bool, true, eqb, leb, not, ◌||◌, if◌then◌else◌, List, [], ◌∷◌, length, filter, map, fold, flat_map, sum_by}
-use Rattle.hot_model.specs.Limits.{max_level}
-use Rattle.hot_model.specs.Values.{BodyValue, CellValue, Vector, place}
-use Rattle.hot_model.specs.Keys.{contains, level, height}
+use Rattle.std.specs.Prelude.{Option, Some, None, ℕ, zero, suc, ◌*◌, Bool, true, eqb, leb, not, ◌||◌, if◌then◌else◌, List, [], ◌∷◌, length, filter, map, fold, flat_map, sum_by}
+use Rattle.hot_units.specs.Limits.{max_level}
+use Rattle.hot_units.specs.Values.{BodyValue, CellValue, Vector, place}
+use Rattle.hot_units.specs.Keys.{contains, level, digits, child, height}
+use Rattle.hot_units.specs.Bodies.{mass_of}
 use Rattle.hot_model.specs.Kernel.{pull, centre, accepts, origin, plus}
 use Rattle.hot_model.specs.Second.{quad}
 
 -- the bodies of a cell
 abbrev pub inside : List BodyValue → ℕ → List BodyValue
 inside bodies c = filter (contains c) bodies
-
--- the mass of one body
-abbrev pub mass_of_body : BodyValue → ℕ
-mass_of_body b = b.mass
-
--- the mass of a list of bodies
-abbrev pub mass_of : List BodyValue → ℕ
-mass_of xs = sum_by mass_of_body xs
 
 -- the record of a cell with these bodies
 abbrev pub record_of : ℕ → List BodyValue → CellValue
@@ -38,14 +31,6 @@ record_of c xs = record {
 -- the record of a cell over a list of bodies
 abbrev pub cell_record : List BodyValue → ℕ → CellValue
 cell_record bodies c = record_of c (inside bodies c)
-
--- the eight digits
-abbrev pub digits : List ℕ
-digits = 0 ∷ 1 ∷ 2 ∷ 3 ∷ 4 ∷ 5 ∷ 6 ∷ 7 ∷ []
-
--- the child of a cell by its digit
-abbrev pub child : ℕ → ℕ → ℕ
-child c d = 8 * c + d
 
 -- how a walk treats a cell: one without bodies counts nothing, one that is not opened counts whole,
 -- an opened leaf is listed, and any other is parted

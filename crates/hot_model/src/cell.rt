@@ -1,12 +1,10 @@
-ghost use Rattle.std.specs.Prelude.{◌≡◌, ◌<◌, ◌≤◌, ◌^◌, ◌/◌, ◌*◌, ◌-◌, IsTrue};
-ghost use Rattle.hot_model.specs.Limits.{fine_bits, max_level};
+ghost use Rattle.std.specs.Prelude.{◌≡◌, ◌<◌, ◌≤◌, ◌^◌, ◌/◌, ◌*◌, ◌-◌};
+ghost use Rattle.hot_units.specs.Limits.{fine_bits};
+ghost use Rattle.hot_units.specs.Values.{cell_by, coordinates, point_at};
+ghost use Rattle.hot_units.specs.Keys.{IsInBox};
 ghost use Rattle.hot_model.specs.Facts.{IsCellRecord};
-ghost use Rattle.hot_model.specs.Values.{cell_by};
-ghost use Rattle.hot_model.specs.Kernel.{coordinates, centre, point_at, InCube};
-ghost use Rattle.hot_model.specs.Keys as keys;
-ghost use Rattle.hot_model.specs.Keys.{IsInBox};
+ghost use Rattle.hot_model.specs.Kernel.{centre, InCube};
 
-use crate::Seen;
 use std::marker::Model;
 
 /// The record of a cell: its key, the count and mass of its bodies, the sums of mass times
@@ -37,7 +35,7 @@ pub struct CellRec {
 
 impl Model for CellRec {
     ghost use Rattle.std.specs.Prelude.{◌≡◌, ◌/◌};
-    ghost use Rattle.hot_model.specs.Values.{CellValue, cell_of};
+    ghost use Rattle.hot_units.specs.Values.{CellValue, cell_of};
     ghost use Rattle.hot_model.specs.Facts.{IsCellRecord};
 
     ghost Value = { CellValue };
@@ -69,7 +67,7 @@ impl Model for CellRec {
 }
 
 /// One coordinate of a centre, or 0 where there is no mass.
-#[tactic(auto, using(crate::proofs::Keys::on_parts))]
+#[tactic(auto, using(crate::proofs::Centres::on_parts))]
 fn part(sum: u128, mass: u64) -> u32
     requires { sum ≤ mass * (2 ^ fine_bits - 1) }
     ensures { result ≡ sum / mass }
@@ -109,7 +107,7 @@ impl CellRec {
 
     /// The centre of mass, rounded down on each axis, in fine units (0, 0, 0 for a cell without
     /// mass). It lies in the cell.
-    #[tactic(auto, using(crate::proofs::Keys::on_parts))]
+    #[tactic(auto, using(crate::proofs::Centres::on_parts))]
     #[inline]
     pub fn centre(&self) -> [u32; 3]
         ensures value { result ≡ coordinates (centre self.now) }
@@ -117,64 +115,5 @@ impl CellRec {
         ensures in_cell { 0 < self.now.count → IsInBox self.now.key (point_at result) }
     {
         [self.mx, self.my, self.mz]
-    }
-}
-
-/// The accumulator of gravity: the mass that a body has seen (at most 2^40), and the force on it so
-/// far, each component at most 2^40 times that mass in size. A force is in units of 2^-40 of mass
-/// over squared fine distance.
-#[derive(Clone, Copy)]
-pub struct Acc3 {
-    pub seen: u64,
-    pub ax: i128,
-    pub ay: i128,
-    pub az: i128,
-}
-
-impl Model for Acc3 {
-    ghost use Rattle.std.specs.Prelude.{◌≤◌, ◌^◌, ◌*◌, nat_abs};
-    ghost use Rattle.hot_model.specs.Values.{Acc3Value};
-    ghost use Rattle.hot_model.specs.Limits.{max_all_mass};
-
-    ghost Value = { Acc3Value };
-
-    ghost view = { λ a. record { seen = a.seen; ax = a.ax; ay = a.ay; az = a.az } };
-
-    ghost invariant = { λ a. (a.seen ≤ max_all_mass) × (nat_abs a.ax ≤ a.seen * 2 ^ 40)
-        × (nat_abs a.ay ≤ a.seen * 2 ^ 40) × (nat_abs a.az ≤ a.seen * 2 ^ 40) };
-
-    ghost inverse = { λ v. record { seen = v.seen; ax = v.ax; ay = v.ay; az = v.az } };
-}
-
-/// The level of a cell key: the number of its octal digits behind the leading 1, 0 to 21. It takes
-/// no memory.
-#[tactic(auto, using(crate::proofs::Keys::on_levels))]
-#[inline]
-pub fn level(key: u64) -> u32
-    requires cell { keys.IsCell key }
-    ensures value { result ≡ keys.level key }
-    ensures within { result ≤ max_level }
-{
-    key.ilog2() / 3
-}
-
-/// Whether a key begins with the digits of a cell. A cell covers itself. It takes no memory.
-#[tactic(auto, using(crate::proofs::Keys::on_covers))]
-#[inline]
-pub fn covers(cell: u64, key: u64) -> bool
-    requires cell { keys.IsCell cell }
-    requires key { keys.IsCell key }
-    ensures value { result ≡ keys.covers cell key }
-{
-    let upper = cell.ilog2();
-    let lower = key.ilog2();
-    upper <= lower && key >> (lower - upper) == cell
-}
-
-impl Seen for Acc3 {
-    ghost seen_of = { λ a. a.seen };
-
-    fn seen(&self) -> u64 {
-        self.seen
     }
 }

@@ -1,10 +1,11 @@
-ghost use Rattle.std.specs.Prelude.{◌≡◌, ◌<◌, ◌≤◌, ◌^◌, ℕ, List, length, MatchResult, IfOk};
-ghost use Rattle.hot_model.specs.Limits.{max_all_mass};
-ghost use Rattle.hot_model.specs.Values.{BodyValue};
-ghost use Rattle.hot_model.specs.Trees.{Settings, mass_of};
-ghost use Rattle.hot_model.specs.Forces.{RowsDiffer, AreForces};
+ghost use Rattle.std.specs.Prelude.{◌≡◌, ◌<◌, ◌≤◌, ◌^◌, List, length, MatchResult, IfOk};
+ghost use Rattle.hot_units.specs.Limits.{max_all_mass};
+ghost use Rattle.hot_units.specs.Values.{BodyValue};
+ghost use Rattle.hot_units.specs.Bodies.{mass_of, RowsDiffer};
+ghost use Rattle.hot_model.specs.Trees.{Settings};
+ghost use Rattle.hot_model.specs.Forces.{AreForces};
 
-use crate::{Acc3, Body};
+use hot_units::{Acc3, Body};
 use std::alloc::{AllocError, Global};
 
 /// What computes the forces that the bodies of a list have on each other: those of the recursive

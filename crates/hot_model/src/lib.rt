@@ -1,24 +1,13 @@
-//! The definitions of `hot`, in specs/, and the types that stand for them: bodies, cells,
-//! accumulators, visits, engines.
+//! The definitions of one tree, in specs/, and the types that stand for them: records of cells,
+//! answers, visits, engines.
 #![tactic(auto)]
 
-mod body;
+mod answer;
 mod cell;
-mod cube;
 mod engine;
-pub mod limits;
-mod list;
-mod mail;
-mod part;
-mod spread;
 mod visit;
 
-pub use body::{Body, body_of, place_key};
-pub use cell::{Acc3, CellRec, covers, level};
-pub use cube::{Axis, Cube};
+pub use answer::{Answer, AnswerList, Answered, RecList};
+pub use cell::CellRec;
 pub use engine::ForceEngine;
-pub use list::{Answer, AnswerList, Answered, BodyList, Items, KeyList, RecList};
-pub use mail::Mail;
-pub use part::Part;
-pub use spread::Spread;
 pub use visit::{Seen, Visit};

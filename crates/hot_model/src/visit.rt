@@ -1,9 +1,10 @@
-ghost use Rattle.std.specs.Prelude.{◌≡◌, ℕ, ◌+◌, ◌≤◌, ◌<◌, ◌^◌, Bool, MatchResult};
-ghost use Rattle.hot_model.specs.Limits.{max_all_mass};
-ghost use Rattle.hot_model.specs.Values.{BodyValue, CellValue};
+ghost use Rattle.std.specs.Prelude.{◌≡◌, ℕ, ◌+◌, ◌≤◌, ◌<◌, Bool, MatchResult};
+ghost use Rattle.hot_units.specs.Limits.{max_all_mass};
+ghost use Rattle.hot_units.specs.Values.{BodyValue, CellValue};
 ghost use Rattle.hot_model.specs.Trees.{Term, Far, Near, mass_of_term};
 
-use crate::{Body, CellRec};
+use crate::CellRec;
+use hot_units::{Acc3, Body};
 use std::alloc::{AllocError, Global};
 
 /// What tells how much mass was added to it.
@@ -64,4 +65,12 @@ pub trait Visit: Send + Drop {
     /// Two additions may change places.
     ghost swaps: { (v : Self) (b : BodyValue) (a : Self.Acc) (s t : Term)
         → adds v b (adds v b a s) t ≡ adds v b (adds v b a t) s };
+}
+
+impl Seen for Acc3 {
+    ghost seen_of = { λ a. a.seen };
+
+    fn seen(&self) -> u64 {
+        self.seen
+    }
 }

@@ -1,7 +1,7 @@
 -- What the program is asked to do, as plain data.
 use Rattle.std.specs.Prelude.{◌≤◌, ℕ, Bool, List}
-use Rattle.hot_model.specs.Limits.{max_ranks, max_bodies}
-use Rattle.hot_model.specs.declared.mail.Mail.{Mail}
+use Rattle.hot_units.specs.Limits.{max_ranks, max_bodies}
+use Rattle.hot_units.specs.declared.mail.Mail.{Mail}
 use Rattle.fixed_kernel.specs.Ratio.{RatioValue}
 use Rattle.hot_words.specs.declared.job.Command.{Command}
 use Rattle.hot_words.specs.declared.job.Command.TheVariants.{Forces, Split, Make, Sample}

@@ -4,9 +4,9 @@ use Rattle.std.specs.Option.{option_map}
 use Rattle.std.specs.Str.{all_ascii_digits, bytes_eq}
 use Rattle.std.specs.Str.Parse.{digits_value}
 use Rattle.std.specs.List.{before_first, after_first}
-use Rattle.hot_model.specs.Limits.{max_ranks, max_leaf, max_bodies, max_ratio, max_softening}
-use Rattle.hot_model.specs.declared.mail.Mail.{Mail}
-use Rattle.hot_model.specs.declared.mail.Mail.TheVariants.{Prompt, Last, Single, Seeded}
+use Rattle.hot_units.specs.Limits.{max_ranks, max_leaf, max_bodies, max_ratio, max_softening}
+use Rattle.hot_units.specs.declared.mail.Mail.{Mail}
+use Rattle.hot_units.specs.declared.mail.Mail.TheVariants.{Prompt, Last, Single, Seeded}
 use Rattle.fixed_kernel.specs.Ratio.{RatioValue}
 
 -- the most digits of a number

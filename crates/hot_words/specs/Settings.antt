@@ -1,8 +1,8 @@
 -- What the options of words say, each by its value or by its default.
 use Rattle.std.specs.Prelude.{ℕ, ◌-◌, Bool, false, not, ◌&&◌, nat_lt, List, length, if◌then◌else◌, Option, codes}
 use Rattle.std.specs.Option.{option_and_then, unwrap_or}
-use Rattle.hot_model.specs.declared.mail.Mail.{Mail}
-use Rattle.hot_model.specs.declared.mail.Mail.TheVariants.{Prompt}
+use Rattle.hot_units.specs.declared.mail.Mail.{Mail}
+use Rattle.hot_units.specs.declared.mail.Mail.TheVariants.{Prompt}
 use Rattle.fixed_kernel.specs.Ratio.{RatioValue}
 use Rattle.hot_words.specs.declared.table.CommandName.{CommandName}
 use Rattle.hot_words.specs.Numbers.{number_of, ranks_of, leaf_of, moments_of, bodies_of, softening_of, ratio_of, mail_of, form_of}

@@ -1,9 +1,9 @@
 // What the program is asked to do.
 ghost use Rattle.std.specs.Prelude.{◌≡◌, ◌≤◌};
-ghost use Rattle.hot_model.specs.Limits.{max_ranks, max_leaf};
+ghost use Rattle.hot_units.specs.Limits.{max_ranks, max_leaf};
 
 use fixed_kernel::{Eps, Ratio};
-use hot_model::Mail;
+use hot_units::Mail;
 
 /// The numbers and choices of a run: ranks, 1 to 64; the opening ratio; the softening; the most
 /// bodies of a leaf, 1 to 64; the order of the moments by which a cell acts, 1 or 2, and 2 only

@@ -7,8 +7,8 @@ ghost use Rattle.hot_words.specs.Numbers.{bodies_of, softening_of, ratio_of, mai
 ghost use Rattle.hot_words.specs.Numbers.{is_slash};
 
 use fixed_kernel::{Eps, Ratio};
-use hot_model::Mail;
-use hot_model::limits::{MAX_BODIES, MAX_LEAF, MAX_RANKS, MAX_RATIO, MAX_SOFTENING};
+use hot_units::Mail;
+use hot_units::limits::{MAX_BODIES, MAX_LEAF, MAX_RANKS, MAX_RATIO, MAX_SOFTENING};
 
 /// The most digits that a number may have.
 const MAX_DIGITS: usize = 20;

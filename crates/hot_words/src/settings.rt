@@ -1,7 +1,7 @@
 // What the options of words say. A value that is not good is a fault, so it never comes to its
 // default in a command.
 ghost use Rattle.std.specs.Prelude.{◌≡◌, ◌≤◌};
-ghost use Rattle.hot_model.specs.Limits.{max_ranks, max_leaf, max_bodies};
+ghost use Rattle.hot_units.specs.Limits.{max_ranks, max_leaf, max_bodies};
 ghost use Rattle.hot_words.specs.Settings.{ranks_given, ratio_given, softening_given, leaf_given};
 ghost use Rattle.hot_words.specs.Settings.{moments_given, mail_given, sdf_given, report_given};
 ghost use Rattle.hot_words.specs.Settings.{bodies_given, seed_given, file_given};
@@ -14,7 +14,7 @@ use crate::places::{find_option, find_value, has_dashes, holds_value, word_at};
 use crate::table::CommandName;
 use crate::word_list::WordList;
 use fixed_kernel::{Eps, Ratio};
-use hot_model::Mail;
+use hot_units::Mail;
 
 /// How many ranks: 1 by default.
 pub fn ranks(name: CommandName, words: &WordList) -> u32

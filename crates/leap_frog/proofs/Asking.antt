@@ -1,6 +1,6 @@
 -- The calls of an engine that a step makes.
 use Rattle.std.proofs.Common.{◌≡◌, List, [], ◌∷◌, Ok, Err, refl, sym, subst, ap}
-use Rattle.hot_model.specs.Values.{BodyValue}
+use Rattle.hot_units.specs.Values.{BodyValue}
 use Rattle.leap_frog.specs.declared.refused.StepRefused.{StepRefused}
 use Rattle.leap_frog.specs.declared.refused.StepRefused.TheVariants.{Leaves, Memory}
 use Rattle.leap_frog.specs.Leap.{Moving, ForceLaw, Leaver, bodies_of, kicked, drifted, leavers, if_none_leaves, step}

@@ -2,7 +2,7 @@
 use Rattle.std.proofs.Common.{◌≡◌, ℕ, zero, suc, ◌+◌, ◌<◌, ◌≤◌, List, [], ◌∷◌, ◌++◌, length, get_or, take, drop, map, true, take_all, ℤ, pos, ◌+ℤ◌, nat_abs, refl, sym, subst, ◌∙◌, ap, drop-cons, arith}
 use Rattle.std.proofs.lemmas.List.{map_more, take_more, take-append-drop}
 use Rattle.std.proofs.lemmas.Grind.{flat_map-append}
-use Rattle.hot_model.specs.Values.{BodyValue, Vector}
+use Rattle.hot_units.specs.Values.{BodyValue, Vector}
 use Rattle.leap_frog.specs.declared.refused.StepRefused.{StepRefused}
 use Rattle.leap_frog.specs.declared.refused.StepRefused.TheVariants.{Leaves, Memory}
 use Rattle.leap_frog.specs.Leap.{Moving, Leaver, bodies_of, drifted, leavers, leaving, put, place_after, is_fine, carried}

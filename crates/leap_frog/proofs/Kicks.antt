@@ -5,7 +5,7 @@ use Rattle.std.proofs.Math.ListN.{set}
 use Rattle.std.proofs.lemmas.Bool.{cases_lt}
 use Rattle.std.proofs.lemmas.List.{ext_get_or, get_or_default, get_or-set_same, get_or-set_other, length-set}
 use Rattle.std.proofs.lemmas.List.Elements.{All-get_or, All-from_get_or}
-use Rattle.hot_model.specs.Values.{Vector, Acc3Value}
+use Rattle.hot_units.specs.Values.{Vector, Acc3Value}
 use Rattle.hot_model.specs.Kernel.{plus, origin}
 use Rattle.leap_frog.specs.States.{IsWithin, sums, force_in, max_force}
 

@@ -1,7 +1,7 @@
 -- Some steps, one after the other.
 use Rattle.std.proofs.Common.{◌≡◌, ℕ, zero, suc, ◌+◌, ◌-◌, ◌<◌, ◌≤◌, List, [], ◌∷◌, ◌++◌, Ok, Err, refl, sym, subst, ◌∙◌, ap, append_assoc, arith}
 use Rattle.std.proofs.lemmas.List.{append-nil}
-use Rattle.hot_model.specs.Values.{BodyValue}
+use Rattle.hot_units.specs.Values.{BodyValue}
 use Rattle.hot_model.specs.Trees.{Settings, force}
 use Rattle.leap_frog.specs.Leap.{Moving, ForceLaw, Leaver, step, steps, steps_from}
 use Rattle.leap_frog.specs.Calls.{CallOf, Rules, Course, Answered, Broke, BrokeIn, StepLeaves, StepsAnswer, StepsLeave, asked_for, asked_in, at_step}

@@ -5,14 +5,11 @@ use Rattle.std.proofs.lemmas.Bool.{cases_lt}
 use Rattle.std.proofs.lemmas.List.{get_or_append_left, get_or_push, length-append, length-map}
 use Rattle.std.proofs.lemmas.Grind.{common_steps}
 use Rattle.std.proofs.lemmas.Int.{ints}
-use Rattle.hot_model.specs.Kernel.{components}
+use Rattle.hot_units.specs.Limits.{max_bodies, max_all_mass}
+use Rattle.hot_units.specs.Values.{components, BodyValue, Vector}
+use Rattle.hot_units.specs.Bodies.{mass_of, mass_of_body, RowsCount, IsBody}
 use Rattle.std.proofs.lemmas.List.Sums.{sum_by_push}
 use Rattle.std.proofs.lemmas.List.Elements.{All-push, All-get_or, All-map, All-weaker}
-use Rattle.hot_model.specs.Limits.{max_bodies, max_all_mass}
-use Rattle.hot_model.specs.Trees.{mass_of, mass_of_body}
-use Rattle.hot_model.specs.Forces.{RowsCount}
-use Rattle.hot_model.specs.World.{IsBody}
-use Rattle.hot_model.specs.Values.{BodyValue, Vector}
 use Rattle.leap_frog.specs.Leap.{Moving, bodies_of, opposite, turned}
 use Rattle.leap_frog.specs.States.{moving, IsState, IsWithin, max_speed}
 

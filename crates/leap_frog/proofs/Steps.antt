@@ -5,14 +5,14 @@ use Rattle.std.proofs.lemmas.Int.{ints}
 use Rattle.std.proofs.lemmas.List.{length-map}
 use Rattle.std.proofs.lemmas.List.Sums.{sum_by-cons}
 use Rattle.std.proofs.lemmas.List.Elements.{All-nil, All-cons, All-head, All-tail, All-weaker}
-use Rattle.hot_model.specs.Values.{BodyValue, Vector, Acc3Value}
+use Rattle.hot_units.specs.Limits.{fine_bits, max_all_mass}
+use Rattle.hot_units.specs.Values.{BodyValue, Vector, Acc3Value}
+use Rattle.hot_units.specs.Bodies.{IsBody, mass_of, mass_of_body, RowsCount, RowsDiffer}
 use Rattle.hot_model.specs.Kernel.{plus}
-use Rattle.hot_model.specs.World.{IsBody}
-use Rattle.hot_model.specs.Limits.{fine_bits, max_all_mass}
+use Rattle.hot_model.specs.Trees.{Settings, force}
+use Rattle.hot_model.specs.Forces.{AreForces, whole}
 use Rattle.leap_frog.specs.declared.refused.StepRefused.{StepRefused}
 use Rattle.leap_frog.specs.declared.refused.StepRefused.TheVariants.{Leaves, Memory}
-use Rattle.hot_model.specs.Trees.{mass_of, mass_of_body, Settings, force}
-use Rattle.hot_model.specs.Forces.{RowsCount, RowsDiffer, AreForces, whole}
 use Rattle.leap_frog.specs.Leap.{Moving, ForceLaw, Leaver, bodies_of, kicked_by, kicked, drifted, leavers, leaving, put, place_after, is_fine, carried, step, if_none_leaves, turned, IsPlaced, velocity_bits}
 use Rattle.leap_frog.specs.States.{moving, IsState, IsDrifted, IsHalfway, IsWithin, StopsAt, StepAnswers, max_speed, sums, force_in, max_force, max_inside}
 use Rattle.leap_frog.proofs.Undo.{fine-is, fine-below, step-of, step-back, stays, append_nothing}

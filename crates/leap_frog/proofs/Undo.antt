@@ -6,9 +6,9 @@ use Rattle.std.proofs.lemmas.List.Elements.{All-nil, All-cons, All-head, All-tai
 use Rattle.std.proofs.lemmas.List.{append-nil}
 use Rattle.std.proofs.lemmas.Bool.{lt-ltb, ltb-true, le-leb}
 use Rattle.std.proofs.Math.IntN.{neg_ℤ-neg_ℤ}
-use Rattle.hot_model.specs.declared.cube.Axis.TheVariants.{X, Y, Z}
-use Rattle.hot_model.specs.Limits.{fine_bits}
-use Rattle.hot_model.specs.Values.{BodyValue, Vector}
+use Rattle.hot_units.specs.Limits.{fine_bits}
+use Rattle.hot_units.specs.Values.{BodyValue, Vector}
+use Rattle.hot_units.specs.declared.cube.Axis.TheVariants.{X, Y, Z}
 use Rattle.leap_frog.specs.Leap.{Moving, ForceLaw, Leaver, velocity_bits, bodies_of, kicked_by, kicked, carried, place_after, is_fine, put, drifted, unless, outside, leaving, leavers, if_none_leaves, step, steps_from, turn, turned, IsPlaced}
 use Rattle.leap_frog.specs.Laws.{StepsUndo}
 

@@ -1,6 +1,6 @@
 -- The calls of an engine that a step makes.
 use Rattle.std.specs.Prelude.{◌≡◌, ℕ, ◌-◌, ◌<◌, zero, suc, List, [], ◌∷◌, ◌++◌, take, Result, Ok, Err, Some, slice_get}
-use Rattle.hot_model.specs.Values.{BodyValue}
+use Rattle.hot_units.specs.Values.{BodyValue}
 use Rattle.leap_frog.specs.declared.refused.StepRefused.{StepRefused}
 use Rattle.leap_frog.specs.declared.refused.StepRefused.TheVariants.{Leaves, Memory}
 use Rattle.leap_frog.specs.declared.refused.StepsRefused.{StepsRefused}

@@ -1,11 +1,9 @@
 -- What a state keeps: a list of bodies and a list of velocities.
 use Rattle.std.specs.Prelude.{◌≡◌, ℕ, ◌^◌, ◌≤◌, ℤ, pos, nat_abs, List, [], ◌∷◌, length, All, Result, Ok, Err, Some, slice_get, slice_index_or}
-use Rattle.hot_model.specs.Limits.{max_bodies, max_all_mass}
-use Rattle.hot_model.specs.Values.{BodyValue, Vector, Acc3Value}
-use Rattle.hot_model.specs.Forces.{RowsCount}
+use Rattle.hot_units.specs.Limits.{max_bodies, max_all_mass}
+use Rattle.hot_units.specs.Values.{BodyValue, Vector, Acc3Value}
+use Rattle.hot_units.specs.Bodies.{RowsCount, mass_of, IsBody}
 use Rattle.hot_model.specs.Kernel.{plus}
-use Rattle.hot_model.specs.Trees.{mass_of}
-use Rattle.hot_model.specs.World.{IsBody}
 use Rattle.leap_frog.specs.declared.refused.StepRefused.{StepRefused}
 use Rattle.leap_frog.specs.declared.refused.StepRefused.TheVariants.{Leaves, Memory}
 use Rattle.leap_frog.specs.Leap.{Moving, ForceLaw, Leaver, bodies_of, drifted, leavers, step}

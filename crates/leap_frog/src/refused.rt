@@ -1,7 +1,7 @@
 ghost use Rattle.std.specs.Prelude.{◌≡◌};
 ghost use Rattle.leap_frog.specs.declared.refused.StepRefused.TheVariants.{Memory};
 
-use hot_model::Axis;
+use hot_units::Axis;
 use std::alloc::AllocError;
 
 /// Why a step was not made.

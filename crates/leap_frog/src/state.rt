@@ -1,15 +1,14 @@
 ghost use Rattle.std.specs.Prelude.{◌≡◌, ◌<◌, ◌≤◌, ◌+◌, ◌∷◌, ◌++◌, [], length, map, MatchResult};
 ghost use Rattle.std.specs.Prelude.{MatchOption, Option, slice_get, All};
 ghost use Rattle.std.specs.Option.{option_copied};
-ghost use Rattle.hot_model.specs.Limits.{max_bodies, max_all_mass};
-ghost use Rattle.hot_model.specs.Trees.{mass_of};
-ghost use Rattle.hot_model.specs.World.{IsBody};
-ghost use Rattle.hot_model.specs.Kernel.{components};
+ghost use Rattle.hot_units.specs.Limits.{max_bodies, max_all_mass};
+ghost use Rattle.hot_units.specs.Values.{components};
+ghost use Rattle.hot_units.specs.Bodies.{mass_of, IsBody};
 ghost use Rattle.leap_frog.specs.Leap as leap;
 ghost use Rattle.leap_frog.specs.States.{IsState, IsWithin, max_speed, vector_of, moving};
 
 use crate::velocity::Velocity;
-use hot_model::Body;
+use hot_units::Body;
 use std::alloc::{AllocError, Global};
 use std::marker::Model;
 

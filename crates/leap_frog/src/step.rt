@@ -9,7 +9,8 @@ ghost use Rattle.hot_model.specs.Trees.{force};
 
 use crate::velocity::{Velocity, drifted};
 use crate::{State, StepRefused};
-use hot_model::{Acc3, Axis, Body, ForceEngine, body_of};
+use hot_model::ForceEngine;
+use hot_units::{Acc3, Axis, Body, body_of};
 use std::alloc::{AllocError, Global};
 
 /// Adds to each velocity the force on its body.

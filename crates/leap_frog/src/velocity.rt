@@ -1,14 +1,15 @@
 ghost use Rattle.std.specs.Prelude.{ℕ, ◌≡◌, ◌<◌, ◌≤◌, ◌+◌, ◌*◌, ◌^◌, pos, ◌+ℤ◌, nat_abs, true};
 ghost use Rattle.std.specs.Prelude.{false, MatchOption, IfSome};
-ghost use Rattle.hot_model.specs.Limits.{fine_bits};
-ghost use Rattle.hot_model.specs.Kernel.{plus, components};
+ghost use Rattle.hot_units.specs.Limits.{fine_bits};
+ghost use Rattle.hot_units.specs.Values.{components};
+ghost use Rattle.hot_model.specs.Kernel.{plus};
 ghost use Rattle.leap_frog.specs.Leap as leap;
 ghost use Rattle.leap_frog.specs.States.{IsWithin, vector_of, force_in, max_force, max_kicked};
 ghost use Rattle.leap_frog.specs.States.{max_speed};
 
 use crate::limits::VELOCITY_BITS;
-use hot_model::Acc3;
-use hot_model::limits::FINE_BITS;
+use hot_units::Acc3;
+use hot_units::limits::FINE_BITS;
 use std::marker::Model;
 
 /// A velocity, in units of 2^-20 of fine length a step.
@@ -20,7 +21,7 @@ pub(crate) struct Velocity {
 }
 
 impl Model for Velocity {
-    ghost use Rattle.hot_model.specs.Values.{Vector};
+    ghost use Rattle.hot_units.specs.Values.{Vector};
 
     ghost Value = { Vector };
 

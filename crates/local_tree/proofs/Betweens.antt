@@ -2,14 +2,16 @@
 use Rattle.std.proofs.Common.{ℕ, ◌≡◌, ◌<◌, ◌≤◌, true, ltb, length, map, filter, refl, subst, inl, inr, arith, Option, Some, None}
 use Rattle.std.specs.Prelude.{Contains, IfSome}
 use Rattle.std.proofs.lemmas.Bool.{cases_lt, lt-ltb}
-use Rattle.hot_model.specs.Values.{BodyValue}
-use Rattle.hot_model.specs.Keys.{IsCell, key_of_body, contains}
-use Rattle.hot_model.specs.World.{World, IsGood, rank_of, bodies_in, left_of, right_of}
-use Rattle.hot_model.specs.Branches.{IsOfRank}
-use Rattle.hot_model.proofs.Members.{all_members, some_member, map_has, filter_has}
+use Rattle.hot_units.specs.Values.{BodyValue}
+use Rattle.hot_units.specs.Keys.{IsCell, key_of_body, contains}
+use Rattle.hot_units.proofs.Members.{all_members, some_member, map_has, filter_has}
+use Rattle.hot_units.proofs.Numbers.{greatest_over, least_under}
+use Rattle.hot_model.proofs.Parts.{has_inside, inside_has}
 use Rattle.hot_model.proofs.Fronts.{body_level}
-use Rattle.hot_model.proofs.Owners.{has_inside, inside_has, rank_in_own}
-use Rattle.hot_model.proofs.Homes.{greatest_over, least_under, left_body, right_body, lower_first}
+use Rattle.rank_model.specs.World.{World, IsGood, rank_of, bodies_in, left_of, right_of}
+use Rattle.rank_model.specs.Branches.{IsOfRank}
+use Rattle.rank_model.proofs.Owners.{rank_in_own}
+use Rattle.rank_model.proofs.Homes.{left_body, right_body, lower_first}
 use Rattle.morton_key.specs.Ranges.{first_key, last_key}
 use Rattle.morton_key.proofs.KeyLaws.{range_of_a_cell}
 use Rattle.local_tree.specs.Pieces.{IsBetween}

@@ -2,10 +2,10 @@
 use Rattle.std.proofs.Common.{ℕ, suc, ◌≡◌, ◌+◌, ◌-◌, ◌*◌, ◌^◌, ◌<◌, ◌≤◌, List, length, get_or, refl, sym, ap, ◌∙◌, arith, Some, None}
 use Rattle.std.specs.Prelude.{slice_range, slice_get}
 use Rattle.std.proofs.Math.Nat.{pow-succ', mul-le-mul_right}
-use Rattle.hot_model.specs.Values.{BodyValue}
-use Rattle.hot_model.specs.Keys.{IsCell, level, key_of_body}
-use Rattle.hot_model.specs.Trees.{inside, child}
-use Rattle.hot_model.specs.Order.{IsInOrder}
+use Rattle.hot_units.specs.Values.{BodyValue}
+use Rattle.hot_units.specs.Keys.{IsCell, level, key_of_body, child}
+use Rattle.hot_units.specs.Order.{IsInOrder}
+use Rattle.hot_model.specs.Trees.{inside}
 use Rattle.morton_key.specs.Ranges.{count_below, first_key, last_key}
 use Rattle.morton_key.proofs.KeyLaws.{bodies_stand_together}
 use Rattle.morton_key.proofs.Numbers.{first_is, last_is, child_lowers}

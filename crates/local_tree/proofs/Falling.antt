@@ -4,7 +4,7 @@ use Rattle.std.specs.Prelude.{All, ◌≢◌, if◌then◌else◌}
 use Rattle.std.proofs.lemmas.Bool.{cases_lt, ne_eqb}
 use Rattle.std.proofs.lemmas.List.{get_or_default, get_or_append_left, get_or_at}
 use Rattle.std.proofs.lemmas.List.Elements.{All-push}
-use Rattle.hot_model.specs.Values.{BodyValue, CellValue}
+use Rattle.hot_units.specs.Values.{BodyValue, CellValue}
 use Rattle.hot_model.specs.Trees.{inside, is_empty, cell_record, record_at}
 use Rattle.local_tree.specs.Pieces.{IsFalling, AreKnown}
 

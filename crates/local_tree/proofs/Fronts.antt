@@ -5,15 +5,15 @@ use Rattle.std.specs.List.{dedup, dedup_from}
 use Rattle.std.proofs.lemmas.Bool.{eqb-true, ne_eqb}
 use Rattle.std.proofs.lemmas.List.{map_more, map-append, append_assoc}
 use Rattle.std.proofs.lemmas.List.Elements.{filter-append, Contains-get_or}
-use Rattle.hot_model.specs.Values.{BodyValue, CellValue}
-use Rattle.hot_model.specs.Keys.{key_of_body, contains, IsCell}
+use Rattle.hot_units.specs.Values.{BodyValue, CellValue}
+use Rattle.hot_units.specs.Keys.{key_of_body, contains, IsCell, front, parent}
+use Rattle.hot_units.proofs.Digits.{cell-pos}
+use Rattle.hot_units.proofs.Members.{has_length}
 use Rattle.hot_model.specs.Trees.{inside}
-use Rattle.hot_model.specs.Branches.{front, parent, cells_at, cells_above}
+use Rattle.hot_model.specs.Cells.{cells_at, cells_above}
+use Rattle.hot_model.proofs.Parts.{inside_has}
 use Rattle.hot_model.proofs.Fronts.{front_level, own_front, parent-covers, covers-contains}
-use Rattle.hot_model.proofs.Members.{has_length}
-use Rattle.hot_model.proofs.Owners.{inside_has}
 use Rattle.morton_key.proofs.Numbers.{below_root, parent_cell}
-use Rattle.hot_model.proofs.Digits.{cell-pos}
 
 -- the last of a list of numbers, or d
 abbrev pub last_or : ℕ → List ℕ → ℕ

@@ -2,7 +2,7 @@
 use Rattle.std.proofs.Common.{ℕ, ◌≡◌, ◌+◌, ◌<◌, List, [], ◌∷◌, ◌++◌, take, flat_map, ap, ◌∙◌}
 use Rattle.std.proofs.lemmas.List.{take_more, append-nil}
 use Rattle.std.proofs.lemmas.List.Concat.{flat_map-append}
-use Rattle.hot_model.specs.Trees.{digits}
+use Rattle.hot_units.specs.Keys.{digits}
 use Rattle.hot_model.proofs.Parts.{digits-at}
 
 -- what one more digit adds to a list that is joined over digits

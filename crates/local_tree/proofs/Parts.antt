@@ -3,17 +3,19 @@ use Rattle.std.proofs.Common.{ℕ, ◌≡◌, ◌+◌, ◌*◌, ◌<◌, ◌≤�
 use Rattle.std.proofs.lemmas.List.{take-append-drop, drop_more}
 use Rattle.std.proofs.lemmas.List.Concat.{flat_map-append}
 use Rattle.std.proofs.lemmas.List.Sums.{sum_by-append, sum_by-cons}
-use Rattle.hot_model.specs.Limits.{max_all_mass}
-use Rattle.hot_model.specs.Values.{BodyValue, CellValue}
-use Rattle.hot_model.specs.Keys.{IsCell, level, covers, contains}
-use Rattle.hot_model.specs.Order.{IsInOrder}
-use Rattle.hot_model.specs.Trees.{inside, mass_of, mass_of_body, record_of, cell_record, child, digits}
-use Rattle.hot_model.proofs.Digits.{level-has}
-use Rattle.hot_model.proofs.Orders.{same_cell}
+use Rattle.hot_units.specs.Limits.{max_all_mass}
+use Rattle.hot_units.specs.Values.{BodyValue, CellValue}
+use Rattle.hot_units.specs.Keys.{IsCell, level, covers, contains, child, digits}
+use Rattle.hot_units.specs.Order.{IsInOrder}
+use Rattle.hot_units.specs.Bodies.{mass_of, mass_of_body}
+use Rattle.hot_units.proofs.Digits.{level-has}
+use Rattle.hot_units.proofs.Bodies.{sum_filter_le}
+use Rattle.hot_model.specs.Trees.{inside, record_of, cell_record}
 use Rattle.hot_model.proofs.Parts.{digits-at}
+use Rattle.hot_model.proofs.Fronts.{child_covers}
+use Rattle.hot_model.proofs.Ranges.{rising_in_order}
+use Rattle.hot_model.proofs.Orders.{same_cell}
 use Rattle.hot_model.proofs.Children.{inside-children}
-use Rattle.hot_model.proofs.Asks.{child_covers}
-use Rattle.hot_model.proofs.Worlds.{rising_in_order, sum_filter_le}
 use Rattle.moments.specs.Sums.{joined}
 
 -- the sums over some bodies of a list, or over all where it counts as many

@@ -1,14 +1,15 @@
 -- The record of a cell over its range of bodies.
 use Rattle.std.proofs.Common.{ℕ, ◌≡◌, ◌<◌, ◌≤◌, false, List, length, refl, sym, ap, ◌∙◌, Some, arith}
 use Rattle.std.proofs.lemmas.Bool.{ne_eqb}
-use Rattle.hot_model.specs.Limits.{max_all_mass}
-use Rattle.hot_model.specs.Values.{BodyValue, CellValue}
-use Rattle.hot_model.specs.Keys.{IsCell, contains, level}
-use Rattle.hot_model.specs.Trees.{mass_of, mass_of_body, record_of, cell_record, record_at, inside, is_empty}
-use Rattle.hot_model.proofs.Digits.{level-le, level-has}
+use Rattle.hot_units.specs.Limits.{max_all_mass}
+use Rattle.hot_units.specs.Values.{BodyValue, CellValue}
+use Rattle.hot_units.specs.Keys.{IsCell, contains, level}
+use Rattle.hot_units.specs.Bodies.{mass_of, mass_of_body}
+use Rattle.hot_units.proofs.Digits.{level-le, level-has}
+use Rattle.hot_units.proofs.Bodies.{sum_filter_le}
+use Rattle.hot_model.specs.Trees.{record_of, cell_record, record_at, inside, is_empty}
 use Rattle.hot_model.proofs.Fronts.{covers-self}
 use Rattle.hot_model.proofs.Within.{inside-within}
-use Rattle.hot_model.proofs.Worlds.{sum_filter_le}
 
 -- the bodies of a cell among its own are those
 inside-own : (bodies : List BodyValue) (c : ℕ) → IsCell c → inside (inside bodies c) c ≡ inside bodies c

@@ -3,7 +3,7 @@ use Rattle.std.proofs.Common.{ℕ, ◌≡◌, ◌+◌, ◌-◌, ◌<◌, ◌≤�
 use Rattle.std.specs.Prelude.{slice_range, slice_get}
 use Rattle.std.proofs.lemmas.List.{drop-take, length-drop, length-take, get_or-take, get_or-drop, get_or_default}
 use Rattle.std.proofs.lemmas.Option.{slice_get_cases}
-use Rattle.hot_model.specs.Values.{BodyValue}
+use Rattle.hot_units.specs.Values.{BodyValue}
 
 -- a range, both ways
 pub range-is : (lo hi : ℕ) (xs : List BodyValue) → lo ≤ hi → drop lo (take hi xs) ≡ slice_range xs lo hi

@@ -2,11 +2,10 @@
 use Rattle.std.proofs.Common.{ℕ, zero, suc, ◌≡◌, ◌+◌, ◌<◌, ◌≤◌, true, false, cond, ltb, List, [], ◌∷◌, length, get_or, arith, refl, subst, ◌∙◌, inl, inr}
 use Rattle.std.proofs.lemmas.Bool.{cases_lt, lt-ltb, le-ltb}
 use Rattle.std.proofs.lemmas.List.Sums.{sum_by-cons}
-use Rattle.hot_model.specs.Values.{BodyValue}
-use Rattle.hot_model.specs.Keys.{key_of_body, IsCell}
-use Rattle.hot_model.specs.Order.{IsInOrder}
-use Rattle.hot_model.proofs.Ranges.{Rising, NoneBelow}
-use Rattle.hot_model.proofs.Worlds.{rising_in_order}
+use Rattle.hot_units.specs.Values.{BodyValue}
+use Rattle.hot_units.specs.Keys.{key_of_body, IsCell}
+use Rattle.hot_units.specs.Order.{IsInOrder}
+use Rattle.hot_model.proofs.Ranges.{Rising, NoneBelow, rising_in_order}
 use Rattle.morton_key.specs.Ranges.{count_below, first_key, last_key}
 use Rattle.morton_key.proofs.Numbers.{is_least, is_greatest}
 

@@ -1,15 +1,16 @@
 -- What a piece and its two neighbouring keys tell of all bodies.
 use Rattle.std.specs.Prelude.{ℕ, suc, ◌≡◌, ◌<◌, ◌≤◌, ◌*◌, ◌↔◌, true, List, length, Contains}
 use Rattle.std.specs.List.Sorted.{IsStrictlyIncreasing}
-use Rattle.hot_model.specs.Limits.{max_level}
-use Rattle.hot_model.specs.Values.{BodyValue}
-use Rattle.hot_model.specs.Order.{IsInOrder}
-use Rattle.hot_model.specs.Keys.{IsCell}
+use Rattle.hot_units.specs.Limits.{max_level}
+use Rattle.hot_units.specs.Values.{BodyValue}
+use Rattle.hot_units.specs.Keys.{IsCell}
+use Rattle.hot_units.specs.Order.{IsInOrder}
 use Rattle.hot_model.specs.Trees.{inside, cell_record}
-use Rattle.hot_model.specs.World.{World, IsGood, piece, left_of, right_of, bodies_in}
-use Rattle.hot_model.specs.Branches.{IsOfRank, IsBranch, cells, branches, branch_records}
-use Rattle.hot_model.specs.Answers.{answer_at, true_answer}
-use Rattle.hot_model.specs.Homes.{is_home, home_branches}
+use Rattle.hot_model.specs.Cells.{cells}
+use Rattle.rank_model.specs.World.{World, IsGood, piece, left_of, right_of, bodies_in}
+use Rattle.rank_model.specs.Branches.{IsOfRank, IsBranch, branches, branch_records}
+use Rattle.rank_model.specs.Answers.{answer_at, true_answer}
+use Rattle.rank_model.specs.Homes.{is_home, home_branches}
 use Rattle.local_tree.specs.Pieces.{IsBetween}
 
 -- a cell is a rank's own by its piece exactly where it has bodies and all of them are of the rank

@@ -1,9 +1,10 @@
 -- A piece: a run of the bodies in key order, and what stands beside it.
 use Rattle.std.specs.Prelude.{ℕ, ◌≡◌, ◌<◌, ◌≤◌, ◌^◌, List, length, Option, Some, IfSome, All, slice_index_or}
-use Rattle.hot_model.specs.Limits.{max_all_mass}
-use Rattle.hot_model.specs.Values.{BodyValue, CellValue}
-use Rattle.hot_model.specs.Trees.{mass_of, record_at}
-use Rattle.hot_model.specs.Order.{IsInOrder}
+use Rattle.hot_units.specs.Limits.{max_all_mass}
+use Rattle.hot_units.specs.Values.{BodyValue, CellValue}
+use Rattle.hot_units.specs.Order.{IsInOrder}
+use Rattle.hot_units.specs.Bodies.{mass_of}
+use Rattle.hot_model.specs.Trees.{record_at}
 use Rattle.morton_key.specs.Ranges.{IsBodyKey, first_key, last_key}
 
 -- the bodies of a piece in order, the nearest keys of other bodies on either side, and the leaf limit

@@ -1,7 +1,7 @@
 -- Where the bodies of a cell stand, and the records made of them.
 use Rattle.std.specs.Prelude.{◌≡◌, ◌+◌, ◌<◌, List}
-use Rattle.hot_model.specs.Values.{BodyValue}
-use Rattle.hot_model.specs.Keys.{IsCell}
+use Rattle.hot_units.specs.Values.{BodyValue}
+use Rattle.hot_units.specs.Keys.{IsCell}
 use Rattle.morton_key.specs.Ranges.{count_below, first_key, last_key}
 use Rattle.local_tree.specs.declared.spans.Span.{Span}
 

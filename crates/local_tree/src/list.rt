@@ -1,6 +1,7 @@
 ghost use Rattle.std.specs.Prelude.{◌≡◌, ◌++◌, IfOk, option_to_list};
 
-use hot_model::{Body, BodyList, CellRec, RecList};
+use hot_model::{CellRec, RecList};
+use hot_units::{Body, BodyList};
 use std::alloc::{AllocError, Global};
 
 /// Adds a record to a list, if there is one.

@@ -1,14 +1,13 @@
 ghost use Rattle.std.specs.Prelude.{◌≡◌, ◌+◌, ◌<◌, ◌≤◌, length, slice_get, slice_range};
-ghost use Rattle.hot_model.specs.Limits.{max_level};
-ghost use Rattle.hot_model.specs.Keys.{IsCell};
-ghost use Rattle.hot_model.specs.Keys as keys;
-ghost use Rattle.hot_model.specs.Branches as branches;
+ghost use Rattle.hot_units.specs.Limits.{max_level};
+ghost use Rattle.hot_units.specs.Keys.{IsCell};
+ghost use Rattle.hot_units.specs.Keys as keys;
+ghost use Rattle.hot_units.specs.Order.{IsInOrder};
 ghost use Rattle.hot_model.specs.Trees as trees;
-ghost use Rattle.hot_model.specs.Order.{IsInOrder};
 ghost use Rattle.morton_key.specs.Ranges as ranges;
 
-use hot_model::Body;
-use hot_model::limits::MAX_LEVEL;
+use hot_units::Body;
+use hot_units::limits::MAX_LEVEL;
 use morton_key::{first_key, last_key};
 
 /// How many bodies of a list in key order have at most this key, which are from the lower to the
@@ -82,7 +81,7 @@ pub fn body_in(bodies: &[Body], cell: u64, i: u32) -> Option<Body>
 /// The cell of a level that has the body with this key: the key without the digits behind.
 pub fn front(key: u64, level: u32) -> u64
     requires level { level ≤ max_level }
-    ensures value { result ≡ branches.front level key }
+    ensures value { result ≡ keys.front level key }
 {
     key >> (3 * (MAX_LEVEL - level))
 }
@@ -92,7 +91,7 @@ pub fn child_of(key: u64, digit: u64) -> u64
     requires cell { IsCell key }
     requires upper { keys.level key < max_level }
     requires digit { digit < 8 }
-    ensures value { result ≡ trees.child key digit }
+    ensures value { result ≡ keys.child key digit }
     ensures cell { IsCell result }
 {
     8 * key + digit

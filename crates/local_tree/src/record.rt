@@ -1,6 +1,6 @@
 ghost use Rattle.std.specs.Prelude.{◌≡◌, ◌≢◌, ◌<◌, ◌-◌, ◌↔◌, ℕ, length, slice_index_or, All};
 ghost use Rattle.std.specs.Prelude.{IsTrue, MatchOption};
-ghost use Rattle.hot_model.specs.Values.{CellValue};
+ghost use Rattle.hot_units.specs.Values.{CellValue};
 ghost use Rattle.local_tree.specs.Pieces.{IsFalling};
 
 use hot_model::CellRec;

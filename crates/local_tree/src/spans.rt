@@ -1,16 +1,18 @@
 ghost use Rattle.std.specs.Prelude.{◌≡◌, ◌<◌, ◌≤◌, ◌^◌, true, List, length, All, IsTrue, IfOk};
 ghost use Rattle.std.specs.Prelude.{MatchOption};
-ghost use Rattle.hot_model.specs.Limits.{max_level, max_all_mass};
-ghost use Rattle.hot_model.specs.Values.{BodyValue};
-ghost use Rattle.hot_model.specs.Keys.{IsCell};
-ghost use Rattle.hot_model.specs.Keys as keys;
+ghost use Rattle.hot_units.specs.Limits.{max_level, max_all_mass};
+ghost use Rattle.hot_units.specs.Values.{BodyValue};
+ghost use Rattle.hot_units.specs.Keys.{IsCell};
+ghost use Rattle.hot_units.specs.Keys as keys;
+ghost use Rattle.hot_units.specs.Order.{IsInOrder};
+ghost use Rattle.hot_units.specs.Bodies.{mass_of};
 ghost use Rattle.hot_model.specs.Trees as trees;
-ghost use Rattle.hot_model.specs.Order.{IsInOrder};
 ghost use Rattle.local_tree.specs.Spans.{IsSpan};
 
 use crate::places::{child_of, count_within, places};
-use hot_model::limits::MAX_LEVEL;
-use hot_model::{Body, CellRec, level};
+use hot_model::CellRec;
+use hot_units::limits::MAX_LEVEL;
+use hot_units::{Body, level};
 use moments::of_inside;
 use morton_key::last_key;
 use std::alloc::{AllocError, Global};
@@ -46,7 +48,7 @@ pub fn span_of(bodies: &[Body], key: u64) -> Option<Span>
 pub fn summed(bodies: &[Body], span: Span) -> CellRec
     requires order { IsInOrder bodies.now }
     requires few { length bodies.now < 2 ^ 32 }
-    requires light { trees.mass_of bodies.now ≤ max_all_mass }
+    requires light { mass_of bodies.now ≤ max_all_mass }
     requires span { IsSpan bodies.now span }
     ensures value { result ≡ trees.cell_record bodies.now span.key }
 {
@@ -57,7 +59,7 @@ pub fn summed(bodies: &[Body], span: Span) -> CellRec
 pub fn record_in(bodies: &[Body], key: u64) -> Option<CellRec>
     requires order { IsInOrder bodies.now }
     requires few { length bodies.now < 2 ^ 32 }
-    requires light { trees.mass_of bodies.now ≤ max_all_mass }
+    requires light { mass_of bodies.now ≤ max_all_mass }
     requires cell { IsCell key }
     ensures value { result ≡ trees.record_at bodies.now key }
 {

@@ -1,15 +1,17 @@
 ghost use Rattle.std.specs.Prelude.{◌≡◌, ◌<◌, ◌≤◌, ◌^◌, length, All, IfOk};
-ghost use Rattle.hot_model.specs.Limits.{max_level, max_all_mass};
-ghost use Rattle.hot_model.specs.Keys as keys;
+ghost use Rattle.hot_units.specs.Limits.{max_level, max_all_mass};
+ghost use Rattle.hot_units.specs.Keys as keys;
+ghost use Rattle.hot_units.specs.Order.{IsInOrder};
+ghost use Rattle.hot_units.specs.Bodies.{mass_of};
 ghost use Rattle.hot_model.specs.Trees as trees;
-ghost use Rattle.hot_model.specs.Order.{IsInOrder};
 ghost use Rattle.local_tree.specs.Pieces.{IsFalling, AreKnown};
 ghost use Rattle.local_tree.specs.Spans.{IsSpan};
 
 use crate::places::child_of;
 use crate::record::is_smaller;
 use crate::spans::{Span, is_parted, spans_of, summed};
-use hot_model::{Body, CellRec};
+use hot_model::CellRec;
+use hot_units::Body;
 use moments::{add, empty};
 use std::alloc::{AllocError, Global};
 
@@ -27,7 +29,7 @@ const _: () = prove!(
 pub fn table_of(alloc: Global, bodies: &[Body], leaf: u32) -> Result<Vec<CellRec>, AllocError>
     requires order { IsInOrder bodies.now }
     requires few { length bodies.now < 2 ^ 32 }
-    requires light { trees.mass_of bodies.now ≤ max_all_mass }
+    requires light { mass_of bodies.now ≤ max_all_mass }
     ensures falling { IfOk result (λ v. IsFalling v.items) }
     ensures known { IfOk result (λ v. AreKnown bodies.now v.items) }
 {
@@ -44,7 +46,7 @@ fn records_of(
 ) -> Result<Vec<CellRec>, AllocError>
     requires order { IsInOrder bodies.now }
     requires few { length bodies.now < 2 ^ 32 }
-    requires light { trees.mass_of bodies.now ≤ max_all_mass }
+    requires light { mass_of bodies.now ≤ max_all_mass }
     requires spans { All (IsSpan bodies.now) spans.now }
     ensures falling { IfOk result (λ v. IsFalling v.items) }
     ensures known { IfOk result (λ v. AreKnown bodies.now v.items) }
@@ -69,7 +71,7 @@ fn push_record(
 ) -> Result<usize, AllocError>
     requires order { IsInOrder bodies.now }
     requires few { length bodies.now < 2 ^ 32 }
-    requires light { trees.mass_of bodies.now ≤ max_all_mass }
+    requires light { mass_of bodies.now ≤ max_all_mass }
     requires span { IsSpan bodies.now span }
     requires falling { IsFalling recs.old.items }
     requires known { AreKnown bodies.now recs.old.items }
@@ -96,7 +98,7 @@ fn record_of(
 ) -> (CellRec, usize)
     requires order { IsInOrder bodies.now }
     requires few { length bodies.now < 2 ^ 32 }
-    requires light { trees.mass_of bodies.now ≤ max_all_mass }
+    requires light { mass_of bodies.now ≤ max_all_mass }
     requires span { IsSpan bodies.now span }
     requires known { AreKnown bodies.now recs.now }
     requires within { done ≤ length recs.now }
@@ -116,7 +118,7 @@ fn record_of(
 fn joined(bodies: &[Body], span: Span, recs: &[CellRec], done: usize) -> (CellRec, usize)
     requires order { IsInOrder bodies.now }
     requires few { length bodies.now < 2 ^ 32 }
-    requires light { trees.mass_of bodies.now ≤ max_all_mass }
+    requires light { mass_of bodies.now ≤ max_all_mass }
     requires span { IsSpan bodies.now span }
     requires upper { keys.level span.key < max_level }
     requires known { AreKnown bodies.now recs.now }

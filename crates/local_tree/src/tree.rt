@@ -1,13 +1,14 @@
 ghost use Rattle.std.specs.Prelude.{◌≡◌, ◌<◌, ◌≤◌, ◌^◌, ℕ, true, cond, eqb, [], ◌∷◌, ◌++◌, length};
 ghost use Rattle.std.specs.Prelude.{map, filter, slice_get, IsTrue, ◌↔◌, IfOk, IfSome};
-ghost use Rattle.hot_model.specs.Limits.{max_all_mass, max_level};
-ghost use Rattle.hot_model.specs.Keys.{IsCell};
-ghost use Rattle.hot_model.specs.Keys as keys;
+ghost use Rattle.hot_units.specs.Limits.{max_all_mass, max_level};
+ghost use Rattle.hot_units.specs.Keys.{IsCell};
+ghost use Rattle.hot_units.specs.Keys as keys;
+ghost use Rattle.hot_units.specs.Order.{IsInOrder};
+ghost use Rattle.hot_units.specs.Bodies.{mass_of};
 ghost use Rattle.hot_model.specs.Trees as trees;
-ghost use Rattle.hot_model.specs.Order.{IsInOrder};
-ghost use Rattle.hot_model.specs.Branches as branches;
-ghost use Rattle.hot_model.specs.Homes as homes;
-ghost use Rattle.hot_model.specs.Answers as answers;
+ghost use Rattle.hot_model.specs.Cells.{cells_at};
+ghost use Rattle.rank_model.specs.Answers as answers;
+ghost use Rattle.rank_model.specs.Homes as homes;
 ghost use Rattle.morton_key.specs.Ranges as ranges;
 ghost use Rattle.morton_key.specs.Ranges.{IsBodyKey};
 ghost use Rattle.local_tree.specs.Pieces.{IsBetween};
@@ -17,8 +18,9 @@ use crate::places::{body_in, child_of, front, places};
 use crate::record::find;
 use crate::spans::record_in;
 use crate::table::table_of;
-use hot_model::limits::MAX_LEVEL;
-use hot_model::{Answer, Body, CellRec, RecList, covers, level};
+use hot_model::{Answer, CellRec, RecList};
+use hot_units::limits::MAX_LEVEL;
+use hot_units::{Body, covers, level};
 use morton_key::{first_key, last_key, parent};
 use std::alloc::{AllocError, Global};
 use std::marker::Model;
@@ -100,7 +102,7 @@ impl LocalTree {
         requires left { IfSome left IsBodyKey }
         requires right { IfSome right IsBodyKey }
         requires few { length piece.now < 2 ^ 32 }
-        requires light { trees.mass_of piece.now ≤ max_all_mass }
+        requires light { mass_of piece.now ≤ max_all_mass }
         ensures value { IfOk result (λ t.
             t ≡ record { bodies = piece.now; left = left; right = right; leaf = leaf }) }
     {
@@ -213,7 +215,7 @@ impl LocalTree {
         ensures value { IfOk result (λ _. list.new ≡ list.old ++ map
             (trees.cell_record self.now.bodies)
             (filter (homes.is_home_branch self.now.bodies self.now.left self.now.right)
-            (branches.cells_at self.now.bodies level))) }
+            (cells_at self.now.bodies level))) }
     {
         let mut last = 0;
         for b in &self.bodies {
@@ -230,7 +232,7 @@ impl LocalTree {
         requires cell { IsCell cell }
         requires some { 0 < length (trees.inside self.now.bodies cell) }
         requires above { (cell ≡ 1 → ⊥)
-            → 0 < length (trees.inside self.now.bodies (branches.parent cell)) }
+            → 0 < length (trees.inside self.now.bodies (keys.parent cell)) }
         ensures value { IfOk result (λ _. list.new ≡ list.old ++ map
             (trees.cell_record self.now.bodies)
             (filter (homes.is_home_branch self.now.bodies self.now.left self.now.right)
@@ -250,7 +252,7 @@ impl LocalTree {
         requires cell { IsCell cell }
         requires some { 0 < length (trees.inside self.now.bodies cell) }
         requires above { (cell ≡ 1 → ⊥)
-            → 0 < length (trees.inside self.now.bodies (branches.parent cell)) }
+            → 0 < length (trees.inside self.now.bodies (keys.parent cell)) }
         ensures value { result
             ≡ homes.is_home_branch self.now.bodies self.now.left self.now.right cell }
     {

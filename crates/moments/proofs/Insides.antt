@@ -3,12 +3,13 @@ use Rattle.std.proofs.Common.{ℕ, ◌≡◌, ◌+◌, ◌<◌, ◌≤◌, ◌^�
 use Rattle.std.proofs.lemmas.List.{take-append-drop, length-take}
 use Rattle.std.proofs.lemmas.List.Elements.{filter_more, filter-append}
 use Rattle.std.proofs.lemmas.List.Sums.{sum_by-append, length-filter, count_by-le-length}
-use Rattle.hot_model.specs.Limits.{max_all_mass}
-use Rattle.hot_model.specs.Values.{BodyValue, CellValue}
-use Rattle.hot_model.specs.Keys.{IsCell, level, covers, contains}
-use Rattle.hot_model.proofs.Digits.{level-le, level-has}
+use Rattle.hot_units.specs.Limits.{max_all_mass}
+use Rattle.hot_units.specs.Values.{BodyValue, CellValue}
+use Rattle.hot_units.specs.Keys.{IsCell, level, covers, contains}
+use Rattle.hot_units.specs.Bodies.{mass_of, mass_of_body}
+use Rattle.hot_units.proofs.Digits.{level-le, level-has}
+use Rattle.hot_model.specs.Trees.{inside, record_of, cell_record}
 use Rattle.hot_model.proofs.Fronts.{covers-self}
-use Rattle.hot_model.specs.Trees.{inside, mass_of, mass_of_body, record_of, cell_record}
 
 -- one more body of the cell: the count stays small
 pub few-more : (c : ℕ) (xs : List BodyValue) (i : ℕ) (b : BodyValue) (r s : CellValue) → length xs < 2 ^ 32 → i < length xs → r ≡ cell_record (take i xs) c → s ≡ record_of c (b ∷ []) → r.count + s.count < 2 ^ 32

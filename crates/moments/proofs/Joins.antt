@@ -4,13 +4,13 @@ use Rattle.std.proofs.lemmas.List.Sums.{sum_by-append}
 use mir.Syntax.{w128}
 use Rattle.std.specs.Prelude.{All}
 use Rattle.std.proofs.lemmas.List.Elements.{All-cons}
-use Rattle.hot_model.specs.Limits.{max_all_mass}
-use Rattle.hot_model.specs.Values.{BodyValue, CellValue, cell_of}
-use Rattle.hot_model.specs.Keys.{IsCell, covers, contains, corner, extent}
+use Rattle.hot_units.specs.Limits.{max_all_mass}
+use Rattle.hot_units.specs.Values.{BodyValue, CellValue, cell_of}
+use Rattle.hot_units.specs.Keys.{IsCell, covers, contains, corner, extent}
+use Rattle.hot_units.specs.Bodies.{IsBody, mass_of_body}
 use Rattle.hot_model.specs.Facts.{IsCellRecord}
-use Rattle.hot_model.specs.World.{IsBody}
+use Rattle.hot_model.specs.Trees.{record_of}
 use Rattle.hot_model.proofs.Corners.{IsWithin, x_within, y_within, z_within, list-facts, sx-in-cube, sy-in-cube, sz-in-cube, wider-facts, facts-plus}
-use Rattle.hot_model.specs.Trees.{mass_of_body, record_of}
 use Rattle.hot_model.proofs.Orders.{same_cell}
 use Rattle.moments.specs.Sums.{joined, RecordsJoin}
 

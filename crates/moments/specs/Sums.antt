@@ -1,6 +1,6 @@
 -- Records of cells added up.
 use Rattle.std.specs.Prelude.{ℕ, ◌≡◌, ◌+◌, List, ◌++◌}
-use Rattle.hot_model.specs.Values.{BodyValue, CellValue}
+use Rattle.hot_units.specs.Values.{BodyValue, CellValue}
 use Rattle.hot_model.specs.Trees.{record_of}
 
 -- a record with the numbers of another added, under its own key

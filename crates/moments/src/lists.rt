@@ -1,11 +1,13 @@
 ghost use Rattle.std.specs.Prelude.{◌≡◌, ◌<◌, ◌≤◌, ◌^◌, length};
-ghost use Rattle.hot_model.specs.Limits.{max_all_mass};
-ghost use Rattle.hot_model.specs.Keys as keys;
-ghost use Rattle.hot_model.specs.Keys.{IsCell};
+ghost use Rattle.hot_units.specs.Limits.{max_all_mass};
+ghost use Rattle.hot_units.specs.Keys as keys;
+ghost use Rattle.hot_units.specs.Keys.{IsCell};
+ghost use Rattle.hot_units.specs.Bodies.{mass_of};
 ghost use Rattle.hot_model.specs.Trees as trees;
 
 use crate::{add, empty, of_body};
-use hot_model::{Body, CellRec, covers};
+use hot_model::CellRec;
+use hot_units::{Body, covers};
 
 /// Whether a cell has a body.
 fn has(cell: u64, b: &Body) -> bool
@@ -20,7 +22,7 @@ fn has(cell: u64, b: &Body) -> bool
 pub fn of_inside(cell: u64, bodies: &[Body]) -> CellRec
     requires cell { IsCell cell }
     requires few { length bodies.now < 2 ^ 32 }
-    requires light { trees.mass_of (trees.inside bodies.now cell) ≤ max_all_mass }
+    requires light { mass_of (trees.inside bodies.now cell) ≤ max_all_mass }
     ensures value { result ≡ trees.cell_record bodies.now cell }
 {
     let mut rec = empty(cell);

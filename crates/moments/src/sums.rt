@@ -1,10 +1,11 @@
 ghost use Rattle.std.specs.Prelude.{◌≡◌, ◌+◌, ◌<◌, ◌≤◌, ◌^◌, true, [], ◌∷◌};
-ghost use Rattle.hot_model.specs.Limits.{max_all_mass};
-ghost use Rattle.hot_model.specs.Keys.{IsCell, contains, covers};
+ghost use Rattle.hot_units.specs.Limits.{max_all_mass};
+ghost use Rattle.hot_units.specs.Keys.{IsCell, contains, covers};
 ghost use Rattle.hot_model.specs.Trees.{record_of};
 ghost use Rattle.moments.specs.Sums.{joined};
 
-use hot_model::{Body, CellRec};
+use hot_model::CellRec;
+use hot_units::Body;
 
 /// The record of a cell without bodies: its key, and all else 0.
 pub fn empty(key: u64) -> CellRec

@@ -2,8 +2,8 @@
 use Rattle.std.proofs.Common.{ℕ, zero, suc, ◌≡◌, ◌+◌, ◌-◌, ◌*◌, ◌/◌, ◌%◌, ◌^◌, ◌<◌, ◌≤◌, add-one, sym, refl, ap, ◌∙◌, arith}
 use Rattle.std.proofs.Math.Nat.{pow-succ', div-div-eq-div-mul, pow-le-pow_right}
 use Rattle.std.proofs.lemmas.Nat.{shl_whole, shl_below, pow_pos}
-use Rattle.hot_model.specs.Keys.{IsCell, level, bit, bits_along, corner_along}
-use Rattle.hot_model.proofs.Digits.{two_pow_three, level-le}
+use Rattle.hot_units.specs.Keys.{IsCell, level, bit, bits_along, corner_along}
+use Rattle.hot_units.proofs.Digits.{two_pow_three, level-le}
 use Rattle.hot_model.proofs.Corners.{bits-small, x_within, y_within, z_within, box-contains}
 use Rattle.morton_key.specs.Laws as laws
 

@@ -1,5 +1,5 @@
 -- The lemmas that the functions name.
-use Rattle.hot_model.proofs.Digits.{cell-pos}
+use Rattle.hot_units.proofs.Digits.{cell-pos}
 use Rattle.morton_key.proofs.Numbers.{parent_cell, parent_lifts}
 
 -- of the test of a cell: cell keys are above 0

@@ -3,14 +3,12 @@ use Rattle.std.proofs.Common.{ℕ, suc, ◌≡◌, ◌+◌, ◌-◌, ◌*◌, �
 use Rattle.std.proofs.Math.Nat.{pow-succ'}
 use Rattle.std.proofs.lemmas.Bool.{cases_lt}
 use Rattle.std.proofs.lemmas.List.Sums.{sum_by-cons}
-use Rattle.hot_model.specs.Values.{BodyValue}
-use Rattle.hot_model.specs.Keys.{key_of_body, IsCell, level, covers}
-use Rattle.hot_model.specs.Trees.{child}
-use Rattle.hot_model.proofs.Digits.{eight_pow_le, level-has, level-le}
+use Rattle.hot_units.specs.Values.{BodyValue}
+use Rattle.hot_units.specs.Keys.{key_of_body, IsCell, level, covers, child}
+use Rattle.hot_units.proofs.Digits.{eight_pow_le, level-has, level-le}
 use Rattle.hot_model.proofs.Parts.{children_share}
-use Rattle.hot_model.proofs.Ranges.{below, inside-is-range}
-use Rattle.hot_model.proofs.Worlds.{rising_in_order}
 use Rattle.hot_model.proofs.Fronts.{covers_front, front_covers, drop_twice}
+use Rattle.hot_model.proofs.Ranges.{below, inside-is-range, rising_in_order}
 use Rattle.morton_key.specs.Ranges.{IsBodyKey, count_below}
 use Rattle.morton_key.specs.Laws as laws
 use Rattle.morton_key.proofs.Numbers.{covered_between, between_covered, first_is, last_is, child_has}

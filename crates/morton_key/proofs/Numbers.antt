@@ -1,10 +1,8 @@
 -- Keys as numbers: first and last keys, parents, children.
 use Rattle.std.proofs.Common.{ℕ, zero, suc, ◌≡◌, ◌+◌, ◌-◌, ◌*◌, ◌/◌, ◌%◌, ◌^◌, ◌<◌, ◌≤◌, true, ap, ◌∙◌, arith}
 use Rattle.std.proofs.Math.Nat.{pow-succ', div-eq_of_lt-le, div-mul-le_self, lt-div-mul-add, mul-le-mul_right}
-use Rattle.hot_model.specs.Keys.{HasLevel, IsCell, level, covers}
-use Rattle.hot_model.specs.Trees.{child}
-use Rattle.hot_model.specs.Branches.{parent}
-use Rattle.hot_model.proofs.Digits.{eight_pow_pos, eight_pow_le, level-is, level-has, level-le, two_pow_three, top-level}
+use Rattle.hot_units.specs.Keys.{HasLevel, IsCell, level, covers, child, parent}
+use Rattle.hot_units.proofs.Digits.{eight_pow_pos, eight_pow_le, level-is, level-has, level-le, two_pow_three, top-level}
 use Rattle.hot_model.proofs.Parts.{child-level}
 use Rattle.hot_model.proofs.Fronts.{covers_front, front_covers, parent_level, eight_add}
 use Rattle.morton_key.specs.Ranges.{IsBodyKey, followed_by, first_key, last_key, IsLeastIn, IsGreatestIn}

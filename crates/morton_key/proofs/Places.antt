@@ -1,9 +1,9 @@
 -- Each body key is the key of a place.
 use Rattle.std.proofs.Common.{ℕ, zero, suc, ◌≡◌, ◌+◌, ◌-◌, ◌*◌, ◌/◌, ◌%◌, ◌^◌, ◌<◌, ◌≤◌, sym, refl, ap, ◌∙◌, arith}
 use Rattle.std.proofs.Math.Nat.{pow-succ', div-div-eq-div-mul}
-use Rattle.hot_model.specs.Values.{Point}
-use Rattle.hot_model.specs.Keys.{HasLevel, key_to}
-use Rattle.hot_model.proofs.Digits.{key_to-low, key_to-high}
+use Rattle.hot_units.specs.Values.{Point}
+use Rattle.hot_units.specs.Keys.{HasLevel, key_to}
+use Rattle.hot_units.proofs.Digits.{key_to-low, key_to-high}
 use Rattle.hot_model.proofs.Fronts.{drop_digits}
 use Rattle.morton_key.specs.Ranges.{IsBodyKey, IsPlaceOf}
 use Rattle.morton_key.specs.Laws as laws

@@ -1,11 +1,11 @@
 -- The laws of keys.
 use Rattle.std.specs.Prelude.{ℕ, ◌≡◌, ◌+◌, ◌<◌, ◌≤◌, ◌↔◌, true, List, sum_by, take, drop}
-use Rattle.hot_model.specs.Limits.{max_level}
-use Rattle.hot_model.specs.Values.{BodyValue, Point, place}
-use Rattle.hot_model.specs.Keys.{HasLevel, IsCell, level, covers, contains, IsInBox}
-use Rattle.hot_model.specs.Trees.{inside, digits, child}
-use Rattle.hot_model.specs.World.{IsBody}
-use Rattle.hot_model.specs.Order.{IsInOrder}
+use Rattle.hot_units.specs.Limits.{max_level}
+use Rattle.hot_units.specs.Values.{BodyValue, Point, place}
+use Rattle.hot_units.specs.Keys.{HasLevel, IsCell, level, covers, contains, IsInBox, digits, child}
+use Rattle.hot_units.specs.Order.{IsInOrder}
+use Rattle.hot_units.specs.Bodies.{IsBody}
+use Rattle.hot_model.specs.Trees.{inside}
 use Rattle.morton_key.specs.Ranges.{IsBodyKey, IsPlaceOf, first_key, last_key, count_below}
 
 -- the body keys are the keys of the places in the cube

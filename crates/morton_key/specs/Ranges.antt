@@ -1,8 +1,8 @@
 -- The body keys of a cell: from its first to its last.
 use Rattle.std.specs.Prelude.{ℕ, zero, suc, ◌≡◌, ◌+◌, ◌*◌, ◌^◌, ◌<◌, ◌≤◌, true, ltb, List, count_by}
-use Rattle.hot_model.specs.Limits.{fine_bits, max_level}
-use Rattle.hot_model.specs.Values.{BodyValue, Point}
-use Rattle.hot_model.specs.Keys.{HasLevel, covers, height, place_key, key_of_body}
+use Rattle.hot_units.specs.Limits.{fine_bits, max_level}
+use Rattle.hot_units.specs.Values.{BodyValue, Point}
+use Rattle.hot_units.specs.Keys.{HasLevel, covers, height, place_key, key_of_body}
 
 -- the key of a body: 1, and then 21 digits
 abbrev pub IsBodyKey : ℕ → Type 0

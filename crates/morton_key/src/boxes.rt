@@ -1,11 +1,12 @@
 ghost use Rattle.std.specs.Prelude.{◌≡◌, ◌≤◌, ◌<◌, ◌^◌};
-ghost use Rattle.hot_model.specs.Limits.{max_level};
-ghost use Rattle.hot_model.specs.Kernel.{coordinates, InCube};
-ghost use Rattle.hot_model.specs.Keys as keys;
-ghost use Rattle.hot_model.specs.Keys.{IsCell};
+ghost use Rattle.hot_units.specs.Limits.{max_level};
+ghost use Rattle.hot_units.specs.Values.{coordinates};
+ghost use Rattle.hot_units.specs.Keys as keys;
+ghost use Rattle.hot_units.specs.Keys.{IsCell};
+ghost use Rattle.hot_model.specs.Kernel.{InCube};
 
-use hot_model::level;
-use hot_model::limits::FINE_BITS;
+use hot_units::level;
+use hot_units::limits::FINE_BITS;
 
 /// The bits of one axis in the last digits of a key.
 #[tactic(auto, using(crate::proofs::Axes::on_bits))]

@@ -1,10 +1,9 @@
 ghost use Rattle.std.specs.Prelude.{◌≡◌, ◌<◌, ◌+◌, ◌↔◌, IsNone, IfSome};
-ghost use Rattle.hot_model.specs.Limits.{max_level};
-ghost use Rattle.hot_model.specs.Keys.{IsCell, level};
-ghost use Rattle.hot_model.specs.Trees as trees;
-ghost use Rattle.hot_model.specs.Branches as branches;
+ghost use Rattle.hot_units.specs.Limits.{max_level};
+ghost use Rattle.hot_units.specs.Keys.{IsCell, level};
+ghost use Rattle.hot_units.specs.Keys as keys;
 
-use hot_model::limits::MAX_LEVEL;
+use hot_units::limits::MAX_LEVEL;
 
 /// The cell one level above: the key without its last digit. None exactly for the root, whose key
 /// is 1.
@@ -12,7 +11,7 @@ use hot_model::limits::MAX_LEVEL;
 pub fn parent(key: u64) -> Option<u64>
     requires cell { IsCell key }
     ensures root { IsNone result ↔ (key ≡ 1) }
-    ensures value { IfSome result (λ k. k ≡ branches.parent key) }
+    ensures value { IfSome result (λ k. k ≡ keys.parent key) }
     ensures cell { IfSome result (λ k. IsCell k) }
     ensures level { IfSome result (λ k. level key ≡ level k + 1) }
 {
@@ -25,11 +24,11 @@ pub fn child(key: u64, digit: u32) -> Option<u64>
     requires cell { IsCell key }
     requires digit { digit < 8 }
     ensures deepest { IsNone result ↔ (level key ≡ max_level) }
-    ensures value { IfSome result (λ k. k ≡ trees.child key digit) }
+    ensures value { IfSome result (λ k. k ≡ keys.child key digit) }
     ensures cell { IfSome result (λ k. IsCell k) }
     ensures level { IfSome result (λ k. level k ≡ level key + 1) }
 {
-    if hot_model::level(key) < MAX_LEVEL {
+    if hot_units::level(key) < MAX_LEVEL {
         Some(8 * key + u64::from(digit))
     } else {
         None

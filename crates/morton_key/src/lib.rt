@@ -11,7 +11,7 @@ mod range;
 
 pub use boxes::corner;
 pub use family::{child, parent};
-pub use hot_model::{Spread, covers, level};
+pub use hot_units::{Spread, covers, level};
 pub use key::{is_cell, key_of};
 pub use laws::{
     bodies_stand_together, body_keys_are_of_places, box_of_a_cell, children_part_a_cell,

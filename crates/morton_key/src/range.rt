@@ -1,9 +1,9 @@
 ghost use Rattle.std.specs.Prelude.{◌≡◌};
-ghost use Rattle.hot_model.specs.Keys.{IsCell};
+ghost use Rattle.hot_units.specs.Keys.{IsCell};
 ghost use Rattle.morton_key.specs.Ranges as ranges;
 
-use hot_model::level;
-use hot_model::limits::MAX_LEVEL;
+use hot_units::level;
+use hot_units::limits::MAX_LEVEL;
 
 /// The least key of a body in a cell: the cell's digits, and zeros behind them up to 21 digits.
 pub fn first_key(cell: u64) -> u64

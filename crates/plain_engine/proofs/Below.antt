@@ -1,11 +1,10 @@
 -- One step down from a cell to a child, out of the list of the cell's own bodies.
 use Rattle.std.proofs.Common.{ℕ, suc, ◌≡◌, ◌+◌, ◌-◌, ◌*◌, ◌<◌, ◌≤◌, List, ap, ◌∙◌, arith}
-use Rattle.hot_model.specs.Values.{BodyValue, CellValue}
-use Rattle.hot_model.specs.Keys.{HasLevel, IsCell, height}
-use Rattle.hot_model.specs.Trees.{inside, child, terms_in, terms_of}
-use Rattle.hot_model.proofs.Fronts.{child_cell, height_child}
+use Rattle.hot_units.specs.Values.{BodyValue, CellValue}
+use Rattle.hot_units.specs.Keys.{HasLevel, IsCell, height, child}
+use Rattle.hot_model.specs.Trees.{inside, terms_in, terms_of}
+use Rattle.hot_model.proofs.Fronts.{child_cell, height_child, child_covers}
 use Rattle.hot_model.proofs.Heights.{height_le, height_level}
-use Rattle.hot_model.proofs.Asks.{child_covers}
 use Rattle.hot_model.proofs.Within.{inside-within, terms-within}
 
 -- a cell that is not of the last level, and one of its children

@@ -1,9 +1,9 @@
 ghost use Rattle.std.specs.Prelude.{◌≡◌, ◌<◌, ◌≤◌, ◌^◌, IfOk, length};
-ghost use Rattle.hot_model.specs.Limits.{max_all_mass};
-ghost use Rattle.hot_model.specs.Keys as keys;
+ghost use Rattle.hot_units.specs.Limits.{max_all_mass};
+ghost use Rattle.hot_units.specs.Keys as keys;
 ghost use Rattle.hot_model.specs.Trees as trees;
 
-use hot_model::{Body, covers};
+use hot_units::{Body, covers};
 use std::alloc::{AllocError, Global};
 
 /// The bodies of a cell.

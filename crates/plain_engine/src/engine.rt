@@ -1,10 +1,11 @@
 ghost use Rattle.std.specs.Prelude.{◌≡◌, ◌<◌, ◌≤◌, ◌↔◌, IsSome, IfSome, false};
-ghost use Rattle.hot_model.specs.Limits.{max_ratio, max_softening, max_leaf};
+ghost use Rattle.hot_units.specs.Limits.{max_ratio, max_softening, max_leaf};
 
 use crate::fold_of;
 use fixed_kernel::{Eps, ForceVisit, Ratio};
-use hot_model::limits::MAX_LEAF;
-use hot_model::{Acc3, Body, ForceEngine};
+use hot_model::ForceEngine;
+use hot_units::limits::MAX_LEAF;
+use hot_units::{Acc3, Body};
 use std::alloc::{AllocError, Global};
 use std::marker::Model;
 
@@ -19,8 +20,8 @@ pub struct PlainEngine {
 
 impl Model for PlainEngine {
     ghost use Rattle.std.specs.Prelude.{◌≤◌, false};
+    ghost use Rattle.hot_units.specs.Limits.{max_leaf};
     ghost use Rattle.hot_model.specs.Trees.{Settings};
-    ghost use Rattle.hot_model.specs.Limits.{max_leaf};
 
     ghost Value = { Settings };
 

@@ -1,12 +1,14 @@
 ghost use Rattle.std.specs.Prelude.{◌≡◌, ◌<◌, ◌≤◌, ◌+◌, ◌^◌, IfOk, length, map};
-ghost use Rattle.hot_model.specs.Limits.{max_all_mass};
-ghost use Rattle.hot_model.specs.Keys.{IsCell};
-ghost use Rattle.hot_model.specs.Trees.{added, terms_of, fold_of as fold_over, mass_of};
-ghost use Rattle.hot_model.specs.Trees.{cell_record, Near, inside as bodies_in};
+ghost use Rattle.hot_units.specs.Limits.{max_all_mass};
+ghost use Rattle.hot_units.specs.Keys.{IsCell};
+ghost use Rattle.hot_units.specs.Bodies.{mass_of};
+ghost use Rattle.hot_model.specs.Trees.{added, terms_of, fold_of as fold_over, cell_record, Near};
+ghost use Rattle.hot_model.specs.Trees.{inside as bodies_in};
 
 use crate::cells::inside;
-use hot_model::limits::MAX_LEVEL;
-use hot_model::{Body, CellRec, Seen, Visit, level};
+use hot_model::{CellRec, Seen, Visit};
+use hot_units::limits::MAX_LEVEL;
+use hot_units::{Body, level};
 use moments::of_inside;
 use std::alloc::{AllocError, Global};
 

@@ -2,25 +2,25 @@
 use Rattle.std.proofs.Common.{◌≡◌, ◌⊎◌, ℕ, zero, suc, ◌+◌, ◌-◌, ◌*◌, ◌<◌, ◌≤◌, Bool, true, false, not, List, [], ◌∷◌, ◌++◌, length, map, sum_by, refl, ap, arith, sym, subst, ◌∙◌, inl, inr}
 use Rattle.std.specs.Prelude.{Contains, ◌&&◌, if◌then◌else◌, eqb}
 use Rattle.std.proofs.lemmas.List.Sums.{sum_by-cons}
-use Rattle.hot_model.specs.Values.{BodyValue, CellValue}
-use Rattle.hot_model.specs.World.{World, IsGood}
-use Rattle.hot_model.specs.Branches.{numbers_below}
-use Rattle.hot_model.specs.Needs.{Needs, needed, met_cells, round_bound}
-use Rattle.hot_model.specs.declared.list.Answered.{Answered}
-use Rattle.hot_model.proofs.Members.{head_has, tail_has, cons_cases, nil_has, some_member, has_map}
-use Rattle.hot_model.proofs.Sorts.{below_has}
-use Rattle.hot_model.proofs.Counts.{needed-are}
-use Rattle.hot_model.proofs.Bounds.{needs_bound}
+use Rattle.hot_units.specs.Values.{BodyValue, CellValue}
+use Rattle.hot_units.specs.Numbers.{numbers_below}
+use Rattle.hot_units.proofs.Members.{head_has, tail_has, cons_cases, nil_has, some_member, has_map}
+use Rattle.hot_units.proofs.Sorts.{below_has}
+use Rattle.hot_model.specs.declared.answer.Answered.{Answered}
+use Rattle.rank_model.specs.World.{World, IsGood}
+use Rattle.rank_model.specs.Needs.{Needs, needed, met_cells, round_bound}
+use Rattle.rank_model.proofs.Counts.{needed-are}
+use Rattle.rank_model.proofs.Bounds.{needs_bound}
 use Rattle.cell_mail.specs.declared.content.Kind.{Kind}
 use Rattle.cell_mail.specs.declared.content.Kind.TheVariants as kinds
 use Rattle.cell_mail.specs.declared.content.Content.{Content}
 use Rattle.cell_mail.specs.declared.content.Content.TheVariants as content
 use Rattle.cell_mail.specs.Letters.{LetterValue, kind_of}
-use Rattle.round_runner.specs.declared.entry.Note.{Note}
-use Rattle.round_runner.specs.declared.entry.Entry.{Entry}
-use Rattle.round_runner.specs.declared.entry.Entry.TheVariants.{Posted, Taken, Round}
-use Rattle.round_runner.specs.Notes.{note_of}
-use Rattle.round_runner.specs.Desk.{Desk, letters_in, rounds_in}
+use Rattle.cell_mail.specs.declared.note.Note.{Note}
+use Rattle.wire.specs.declared.entry.Entry.{Entry}
+use Rattle.wire.specs.declared.entry.Entry.TheVariants.{Posted, Taken, Round}
+use Rattle.cell_mail.specs.Notes.{note_of}
+use Rattle.wire.specs.Desk.{Desk, letters_in, rounds_in}
 use Rattle.rank_core.specs.Times.{flag, times}
 use Rattle.protocol.specs.Counts.{in_posted, in_taken, same_kind, is_between, one_between, key_between, is_ask_of, asks_by, answers_to, any_letter}
 use Rattle.rank_core.specs.Truth.{owner_of, TrueContent, TrueLetter}

@@ -6,14 +6,14 @@ use Rattle.std.specs.Bool.{Decides}
 use Rattle.std.specs.Cmp.Lexicographic.{pointwise, bytes_decides}
 use Rattle.std.proofs.lemmas.Bool.Decides.{Decides-eqb}
 use Rattle.std.proofs.lemmas.List.Sums.{sum_by-cons}
-use Rattle.hot_model.specs.Values.{BodyValue, CellValue}
-use Rattle.hot_model.specs.World.{World}
+use Rattle.hot_units.specs.Values.{BodyValue, CellValue}
+use Rattle.rank_model.specs.World.{World}
 use Rattle.cell_mail.specs.declared.content.Kind.{Kind}
 use Rattle.cell_mail.specs.declared.content.Kind.TheVariants.{Branches, Asks, Answers}
-use Rattle.round_runner.specs.declared.entry.Note.{Note}
-use Rattle.round_runner.specs.declared.entry.Entry.{Entry}
-use Rattle.round_runner.specs.declared.entry.Entry.TheVariants.{Posted, Taken, Round}
-use Rattle.round_runner.specs.Notes.{note_of}
+use Rattle.cell_mail.specs.declared.note.Note.{Note}
+use Rattle.wire.specs.declared.entry.Entry.{Entry}
+use Rattle.wire.specs.declared.entry.Entry.TheVariants.{Posted, Taken, Round}
+use Rattle.cell_mail.specs.Notes.{note_of}
 use Rattle.rank_core.specs.Times.{flag}
 use Rattle.protocol.specs.Counts.{in_posted, in_taken, same_kind, same_note, posted_notes, taken_notes}
 use Rattle.protocol.specs.Logs.{Legal}

@@ -1,22 +1,22 @@
 -- How deep the cells are of which letters speak, by the round.
 use Rattle.std.proofs.Common.{◌≡◌, ◌⊎◌, ℕ, zero, suc, ◌+◌, ◌*◌, ◌<◌, ◌≤◌, Bool, true, false, Some, List, [], ◌∷◌, ◌++◌, length, map, refl, ap, arith, sym, subst, ◌∙◌, inl, inr, slice_get, slice_set, true≢false}
 use Rattle.std.specs.Prelude.{Contains, if◌then◌else◌, eqb}
-use Rattle.hot_model.specs.Values.{BodyValue, CellValue}
-use Rattle.hot_model.specs.Keys.{level}
-use Rattle.hot_model.specs.World.{World, IsGood}
-use Rattle.hot_model.specs.Branches.{parent, branch_records}
-use Rattle.hot_model.specs.declared.list.Answered.{Answered}
-use Rattle.hot_model.proofs.Members.{map_has, has_filter, some_member}
-use Rattle.hot_model.proofs.Digits.{level-le}
+use Rattle.hot_units.specs.Values.{BodyValue, CellValue}
+use Rattle.hot_units.specs.Keys.{level, parent}
+use Rattle.hot_units.proofs.Digits.{level-le}
+use Rattle.hot_units.proofs.Members.{map_has, has_filter, some_member}
+use Rattle.hot_model.specs.declared.answer.Answered.{Answered}
+use Rattle.rank_model.specs.World.{World, IsGood}
+use Rattle.rank_model.specs.Branches.{branch_records}
 use Rattle.cell_mail.specs.declared.content.Kind.TheVariants as kinds
 use Rattle.cell_mail.specs.declared.content.Content.{Content}
 use Rattle.cell_mail.specs.declared.content.Content.TheVariants as content
 use Rattle.cell_mail.specs.Letters.{LetterValue, kind_of}
-use Rattle.round_runner.specs.declared.entry.Entry.{Entry}
-use Rattle.round_runner.specs.declared.entry.Entry.TheVariants.{Posted, Taken, Round}
-use Rattle.round_runner.specs.declared.wire.Turn.{Turn}
-use Rattle.round_runner.specs.Notes.{note_of}
-use Rattle.round_runner.specs.Desk.{Desk, Takes, posted, turned, rounded, rounds_in}
+use Rattle.wire.specs.declared.entry.Entry.{Entry}
+use Rattle.wire.specs.declared.entry.Entry.TheVariants.{Posted, Taken, Round}
+use Rattle.wire.specs.declared.wire.Turn.{Turn}
+use Rattle.cell_mail.specs.Notes.{note_of}
+use Rattle.wire.specs.Desk.{Desk, Takes, posted, turned, rounded, rounds_in}
 use Rattle.protocol.specs.Counts.{in_letters, in_posted, in_taken, same_kind, one_between, asks_by, answers_to, any_letter}
 use Rattle.rank_core.specs.Truth.{IsCellOf, owner_of, TrueContent}
 use Rattle.rank_core.specs.Seat.{Seat, Moves, each_below, branches_letter, sorted_keys, asked_by, answers_letter, asks_letter, answers_for, owned_by, asks_for, sends, with_outbox, with_inbox}

@@ -1,17 +1,18 @@
 -- What comes before what in a legal log.
 use Rattle.std.proofs.Common.{◌≡◌, ◌≢◌, ◌⊎◌, ℕ, ◌+◌, ◌<◌, ◌≤◌, Bool, true, false, true≢false, eqb, ◌&&◌, if◌then◌else◌, List, [], ◌∷◌, ◌++◌, map, refl, ap, arith, sym, subst, ◌∙◌, inl, inr}
-use Rattle.hot_model.specs.Values.{BodyValue, CellValue}
-use Rattle.hot_model.specs.World.{World}
-use Rattle.hot_model.specs.Branches.{IsBranch, is_branch, parent}
-use Rattle.hot_model.proofs.Counts.{branch_of_test, test_of_branch}
+use Rattle.hot_units.specs.Values.{BodyValue, CellValue}
+use Rattle.hot_units.specs.Keys.{parent}
+use Rattle.rank_model.specs.World.{World}
+use Rattle.rank_model.specs.Branches.{IsBranch, is_branch}
+use Rattle.rank_model.proofs.Counts.{branch_of_test, test_of_branch}
 use Rattle.cell_mail.specs.declared.content.Kind.TheVariants as kinds
 use Rattle.cell_mail.specs.declared.content.Content.{Content}
 use Rattle.cell_mail.specs.declared.content.Content.TheVariants as content
 use Rattle.cell_mail.specs.Letters.{LetterValue, kind_of}
-use Rattle.round_runner.specs.declared.entry.Note.{Note}
-use Rattle.round_runner.specs.declared.entry.Entry.{Entry}
-use Rattle.round_runner.specs.declared.entry.Entry.TheVariants.{Posted, Taken, Round}
-use Rattle.round_runner.specs.Notes.{note_of}
+use Rattle.cell_mail.specs.declared.note.Note.{Note}
+use Rattle.wire.specs.declared.entry.Entry.{Entry}
+use Rattle.wire.specs.declared.entry.Entry.TheVariants.{Posted, Taken, Round}
+use Rattle.cell_mail.specs.Notes.{note_of}
 use Rattle.rank_core.specs.Times.{times}
 use Rattle.rank_core.specs.Truth.{IsCellOf, TrueContent}
 use Rattle.protocol.specs.Counts.{in_posted, in_taken, same_kind, is_between, one_between, key_between, is_ask_of, is_answer_to, asks_by, answers_to}

@@ -1,7 +1,7 @@
 -- Each event keeps what holds of all ranks and the wire together.
 use Rattle.std.proofs.Common.{◌≡◌, ◌⊎◌, ℕ, zero, suc, ◌≤◌, refl, arith, subst, inl, inr}
-use Rattle.hot_model.specs.Needs.{IsForeign}
-use Rattle.hot_model.proofs.Bounds.{needs_bound}
+use Rattle.rank_model.specs.Needs.{IsForeign}
+use Rattle.rank_model.proofs.Bounds.{needs_bound}
 use Rattle.protocol.specs.Counts.{in_posted, asks_by, answers_to}
 use Rattle.protocol.specs.Laws.{StartHolds, StepKeeps, PostKeeps, TakeKeeps, TurnKeeps, RoundKeeps, OneState, OwnFresh, QuietEnds, SameNotes, TakenOnce, AsksExactly, FewNeeds, FewLetters, FewRounds, RoundsLeft, StepDeepens, PostDeep, TakeDeep, TurnDeep, RoundDeep, BranchesFirst, AsksFirst}
 use Rattle.protocol.proofs.Following.{told_before, asked_before}

@@ -1,10 +1,10 @@
 -- How deep the cells are of which letters speak, by the round.
 use Rattle.std.specs.Prelude.{ℕ, ◌+◌, ◌*◌, ◌≡◌, ◌<◌, ◌≤◌, true, false, List, [], ◌∷◌, map, Contains, Some, slice_get}
-use Rattle.hot_model.specs.Keys.{level}
+use Rattle.hot_units.specs.Keys.{level}
 use Rattle.cell_mail.specs.declared.content.Content.{Content}
 use Rattle.cell_mail.specs.declared.content.Content.TheVariants as content
 use Rattle.cell_mail.specs.Letters.{LetterValue}
-use Rattle.round_runner.specs.Desk.{Desk, rounds_in}
+use Rattle.wire.specs.Desk.{Desk, rounds_in}
 use Rattle.rank_core.specs.Seat.{Seat}
 use Rattle.protocol.specs.Logs.{taken_since, prompt_rounds}
 

@@ -1,16 +1,17 @@
 -- All ranks together with the wire.
 use Rattle.std.specs.Prelude.{ℕ, ◌+◌, ◌≡◌, ◌≢◌, ◌<◌, ◌≤◌, Bool, true, false, List, [], ◌∷◌, length, Contains, ◌⊎◌, Some, slice_get}
-use Rattle.hot_model.specs.Values.{BodyValue, CellValue}
-use Rattle.hot_model.specs.World.{World, IsGood}
-use Rattle.hot_model.specs.Branches.{IsBranch, parent}
-use Rattle.hot_model.specs.Needs.{Needs}
+use Rattle.hot_units.specs.Values.{BodyValue, CellValue}
+use Rattle.hot_units.specs.Keys.{parent}
+use Rattle.rank_model.specs.World.{World, IsGood}
+use Rattle.rank_model.specs.Branches.{IsBranch}
+use Rattle.rank_model.specs.Needs.{Needs}
 use Rattle.cell_mail.specs.declared.content.Kind.{Kind}
 use Rattle.cell_mail.specs.declared.content.Kind.TheVariants as kinds
-use Rattle.round_runner.specs.declared.entry.Note.{Note}
-use Rattle.round_runner.specs.declared.entry.Entry.{Entry}
-use Rattle.round_runner.specs.declared.entry.Entry.TheVariants.{Posted, Taken, Round}
-use Rattle.round_runner.specs.declared.wire.Turn.TheVariants.{Free}
-use Rattle.round_runner.specs.Desk.{Desk, rounds_in}
+use Rattle.cell_mail.specs.declared.note.Note.{Note}
+use Rattle.wire.specs.declared.entry.Entry.{Entry}
+use Rattle.wire.specs.declared.entry.Entry.TheVariants.{Posted, Taken, Round}
+use Rattle.wire.specs.declared.wire.Turn.TheVariants.{Free}
+use Rattle.wire.specs.Desk.{Desk, rounds_in}
 use Rattle.rank_core.specs.Times.{flag, times}
 use Rattle.protocol.specs.Counts.{in_letters, in_posted, in_taken, in_stretch, one_between, asks_by, answers_to, any_letter}
 use Rattle.rank_core.specs.Truth.{owner_of, AllTrue, TrueInbox, TrueOutbox}

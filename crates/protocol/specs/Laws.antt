@@ -1,14 +1,14 @@
 -- What each event keeps.
 use Rattle.std.specs.Prelude.{ℕ, ◌+◌, ◌-◌, ◌*◌, ◌<◌, ◌≤◌, ◌≡◌, ◌≢◌, ◌++◌, ◌↔◌, Bool, true, IsTrue, List, [], ◌∷◌, Some, length, count_by, slice_get, slice_set}
-use Rattle.hot_model.specs.Values.{BodyValue, CellValue}
-use Rattle.hot_model.specs.World.{World, IsGood}
-use Rattle.hot_model.specs.Needs.{Needs, IsForeign, met_cells, round_bound}
+use Rattle.hot_units.specs.Values.{BodyValue, CellValue}
+use Rattle.rank_model.specs.World.{World, IsGood}
+use Rattle.rank_model.specs.Needs.{Needs, IsForeign, met_cells, round_bound}
 use Rattle.cell_mail.specs.declared.content.Kind.TheVariants as kinds
 use Rattle.cell_mail.specs.Letters.{LetterValue}
-use Rattle.round_runner.specs.declared.wire.Turn.{Turn}
-use Rattle.round_runner.specs.Desk.{Desk, letters_in, rounds_in, Takes, posted, turned, rounded}
-use Rattle.round_runner.specs.declared.entry.Entry.{Entry}
-use Rattle.round_runner.specs.declared.entry.Note.{Note}
+use Rattle.wire.specs.declared.wire.Turn.{Turn}
+use Rattle.wire.specs.Desk.{Desk, letters_in, rounds_in, Takes, posted, turned, rounded}
+use Rattle.wire.specs.declared.entry.Entry.{Entry}
+use Rattle.cell_mail.specs.declared.note.Note.{Note}
 use Rattle.rank_core.specs.Times.{times}
 use Rattle.protocol.specs.Counts.{in_posted, in_taken, one_between, asks_by, answers_to, same_note, posted_notes, taken_notes}
 use Rattle.rank_core.specs.Truth.{TrueLetter, owner_of}

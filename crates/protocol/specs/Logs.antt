@@ -1,16 +1,18 @@
 -- Legal logs and complete logs. A log has its newest entry first, and `past` is what stands before an entry.
 use Rattle.std.specs.Prelude.{ℕ, ◌+◌, ◌≡◌, ◌≢◌, ◌<◌, ◌≤◌, Bool, true, false, not, List, [], ◌∷◌, map, length, sum_by, Contains}
-use Rattle.hot_model.specs.Values.{BodyValue, CellValue}
-use Rattle.hot_model.specs.World.{World}
-use Rattle.hot_model.specs.Branches.{IsBranch, IsOwner, parent, numbers_below}
-use Rattle.hot_model.specs.Needs.{Needs, needed}
+use Rattle.hot_units.specs.Values.{BodyValue, CellValue}
+use Rattle.hot_units.specs.Numbers.{numbers_below}
+use Rattle.hot_units.specs.Keys.{parent}
+use Rattle.rank_model.specs.World.{World}
+use Rattle.rank_model.specs.Branches.{IsBranch, IsOwner}
+use Rattle.rank_model.specs.Needs.{Needs, needed}
 use Rattle.cell_mail.specs.declared.content.Content.{Content}
 use Rattle.cell_mail.specs.declared.content.Content.TheVariants as content
 use Rattle.cell_mail.specs.declared.content.Kind.TheVariants as kinds
 use Rattle.cell_mail.specs.Letters.{LetterValue, kind_of}
-use Rattle.round_runner.specs.declared.entry.Note.{Note}
-use Rattle.round_runner.specs.declared.entry.Entry.{Entry}
-use Rattle.round_runner.specs.declared.entry.Entry.TheVariants.{Posted, Taken, Round}
+use Rattle.cell_mail.specs.declared.note.Note.{Note}
+use Rattle.wire.specs.declared.entry.Entry.{Entry}
+use Rattle.wire.specs.declared.entry.Entry.TheVariants.{Posted, Taken, Round}
 use Rattle.rank_core.specs.Times.{flag, times}
 use Rattle.protocol.specs.Counts.{in_posted, in_taken, in_stretch, one_between, key_between, asks_by}
 use Rattle.rank_core.specs.Truth.{TrueLetter}

@@ -1,6 +1,6 @@
 -- Ranks in a list, each at its place.
 use Rattle.std.specs.Prelude.{ℕ, ◌≡◌, List, map, length, Some, slice_get}
-use Rattle.hot_model.specs.World.{World, IsGood}
+use Rattle.rank_model.specs.World.{World, IsGood}
 use Rattle.rank_core.specs.Seat.{Seat}
 use Rattle.rank_core.specs.Standing.{RankState}
 use Rattle.rank_core.specs.Seats.{seat_of, visit_of}

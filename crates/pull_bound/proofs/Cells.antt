@@ -4,15 +4,16 @@ use Rattle.std.specs.Prelude.{Contains}
 use Rattle.std.proofs.lemmas.Bool.{and_parts, ltb-true}
 use Rattle.std.proofs.lemmas.List.Elements.{All-contains}
 use Rattle.std.proofs.lemmas.Nat.{mul-le, pow_pos}
-use Rattle.hot_model.specs.Values.{BodyValue, place}
-use Rattle.hot_model.specs.Keys.{IsCell, contains, level, side, corner, extent}
+use Rattle.hot_units.specs.Values.{BodyValue, place}
+use Rattle.hot_units.specs.Keys.{IsCell, contains, level, side, corner, extent}
+use Rattle.hot_units.specs.Bodies.{IsBody}
+use Rattle.hot_units.proofs.Members.{has_filter}
 use Rattle.hot_model.specs.Kernel.{square, apart, distance2, centre, accepts}
 use Rattle.hot_model.specs.Trees.{cell_record}
-use Rattle.hot_model.specs.World.{World, IsBody, IsGood, bodies_in}
 use Rattle.hot_model.proofs.Corners.{x_within, y_within, z_within, centre-in-box}
-use Rattle.hot_model.proofs.Members.{has_filter}
 use Rattle.hot_model.proofs.Pulls.{distance2-is}
-use Rattle.hot_model.proofs.Worlds.{record_is}
+use Rattle.rank_model.specs.World.{World, IsGood, bodies_in}
+use Rattle.rank_model.proofs.Records.{record_is}
 use Rattle.pull_bound.specs.Laws.{IsNearCentre}
 
 -- two coordinates in one box are less than its side apart

@@ -5,14 +5,14 @@ use Rattle.std.proofs.lemmas.Int.{ints}
 use Rattle.std.proofs.lemmas.List.Elements.{All-filter}
 use Rattle.std.proofs.Math.IntN.{pos-*ℤ-pos, pos-*ℤ-negsuc}
 use Rattle.std.proofs.lemmas.List.Sums.{sum_by-cons}
-use Rattle.hot_model.specs.Values.{BodyValue, CellValue, Vector, place}
-use Rattle.hot_model.specs.declared.cube.Axis.{Axis}
-use Rattle.hot_model.specs.declared.cube.Axis.TheVariants as axes
-use Rattle.hot_model.specs.Keys.{HasLevel, contains, side}
+use Rattle.hot_units.specs.Values.{BodyValue, CellValue, Vector, place}
+use Rattle.hot_units.specs.Keys.{HasLevel, contains, side, digits, child}
+use Rattle.hot_units.specs.declared.cube.Axis.{Axis}
+use Rattle.hot_units.specs.declared.cube.Axis.TheVariants as axes
+use Rattle.hot_units.proofs.Sorts.{sum_filter}
 use Rattle.hot_model.specs.Kernel.{square, distance2, centre, toward, accepts, origin, plus}
-use Rattle.hot_model.specs.Trees.{Settings, inside, cell_record, is_empty, digits, child, total, pull_far, pull_near, opens_of, force_in, force}
+use Rattle.hot_model.specs.Trees.{Settings, inside, cell_record, is_empty, total, pull_far, pull_near, opens_of, force_in, force}
 use Rattle.hot_model.proofs.Parts.{children_share, child-level, inside-root}
-use Rattle.hot_model.proofs.Sorts.{sum_filter}
 use Rattle.hot_model.proofs.Ties.{at_cell_cases, nil-is_empty}
 use Rattle.pull_bound.specs.Exact.{component, IsAtMost, IsAtLeast}
 use Rattle.pull_bound.specs.Sums.{felt, spot, beyond, before, share_of, IsNearAlong}

@@ -4,9 +4,9 @@ use Rattle.std.proofs.lemmas.Bool.{cases_lt, le-leb, lt-leb}
 use Rattle.std.proofs.lemmas.Int.{ints}
 use Rattle.std.proofs.lemmas.Nat.{mul-le}
 use Rattle.std.proofs.Math.Nat.{lt-div-mul-add, div-mul-le_self, zero-div, div-zero, div-eq_of_lt}
-use Rattle.hot_model.specs.Values.{Point}
-use Rattle.hot_model.specs.declared.cube.Axis.{Axis}
-use Rattle.hot_model.specs.declared.cube.Axis.TheVariants as axes
+use Rattle.hot_units.specs.Values.{Point}
+use Rattle.hot_units.specs.declared.cube.Axis.{Axis}
+use Rattle.hot_units.specs.declared.cube.Axis.TheVariants as axes
 use Rattle.hot_model.specs.Kernel.{soft2, divisor, toward, pull_along, pull, origin}
 use Rattle.hot_model.proofs.Roots.{root_is}
 use Rattle.hot_model.proofs.Pulls.{root-above, nat_abs-toward}

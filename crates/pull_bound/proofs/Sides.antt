@@ -5,8 +5,8 @@ use Rattle.std.proofs.lemmas.Nat.{mul-le}
 use Rattle.std.proofs.lemmas.List.Elements.{All-head, All-tail}
 use Rattle.std.proofs.lemmas.List.Sums.{sum_by-cons}
 use Rattle.std.proofs.Math.Nat.{div-mul-le_self}
-use Rattle.hot_model.specs.Values.{BodyValue, place}
-use Rattle.hot_model.specs.declared.cube.Axis.{Axis}
+use Rattle.hot_units.specs.Values.{BodyValue, place}
+use Rattle.hot_units.specs.declared.cube.Axis.{Axis}
 use Rattle.hot_model.proofs.Pulls.{soft2-above, soft2-is, root-above}
 use Rattle.fixed_kernel.specs.Softened.{scaled_root}
 use Rattle.pull_bound.specs.Exact.{Source, exact, IsAtMost, IsAtLeast}

@@ -1,9 +1,9 @@
 -- The exact pull. Its size along an axis, in printed units, is the number E >= 0 with E^2 * r2^3 = (m * d)^2 * 2^80, for the
 -- mass m, the distance d along the axis and the softened squared distance r2 (Newton, softened after Plummer).
 use Rattle.std.specs.Prelude.{ℕ, ◌*◌, ◌+◌, ◌^◌, ◌<◌, ◌≤◌, ◌≡◌, ◌↔◌, ℤ, pos, ◌≤ℤ◌}
-use Rattle.hot_model.specs.Values.{Point, Vector}
-use Rattle.hot_model.specs.declared.cube.Axis.{Axis}
-use Rattle.hot_model.specs.declared.cube.Axis.TheVariants as axes
+use Rattle.hot_units.specs.Values.{Point, Vector}
+use Rattle.hot_units.specs.declared.cube.Axis.{Axis}
+use Rattle.hot_units.specs.declared.cube.Axis.TheVariants as axes
 use Rattle.hot_model.specs.Kernel.{square, apart, soft2}
 use Rattle.fixed_kernel.specs.Softened.{scaled_root}
 

@@ -1,11 +1,11 @@
 -- The laws.
 use Rattle.std.specs.Prelude.{ℕ, ◌*◌, ◌≡◌, ◌<◌, ◌≤◌, true, List, Contains, nat_abs}
-use Rattle.hot_model.specs.Values.{Point, BodyValue, CellValue, place}
-use Rattle.hot_model.specs.World.{World, IsGood, bodies_in}
-use Rattle.hot_model.specs.declared.cube.Axis.{Axis}
-use Rattle.hot_model.specs.Keys.{IsCell, side}
+use Rattle.hot_units.specs.Values.{Point, BodyValue, CellValue, place}
+use Rattle.hot_units.specs.Keys.{IsCell, side}
+use Rattle.hot_units.specs.declared.cube.Axis.{Axis}
 use Rattle.hot_model.specs.Kernel.{square, distance2, soft2, centre, pull, accepts, origin}
 use Rattle.hot_model.specs.Trees.{Settings, cell_record, force}
+use Rattle.rank_model.specs.World.{World, IsGood, bodies_in}
 use Rattle.pull_bound.specs.Exact.{along, component, source, IsNear, Points}
 use Rattle.pull_bound.specs.Sums.{side_of, IsNearAlong}
 

@@ -1,7 +1,7 @@
 -- Sums of exact pulls, by whole numbers between which the terms lie.
 use Rattle.std.specs.Prelude.{ℕ, ◌*◌, ◌+◌, ◌/◌, ltb, List, length, filter, sum_by, All, ℤ, pos, ◌*ℤ◌, ◌-ℤ◌, ◌≤ℤ◌}
-use Rattle.hot_model.specs.Values.{BodyValue, place}
-use Rattle.hot_model.specs.declared.cube.Axis.{Axis}
+use Rattle.hot_units.specs.Values.{BodyValue, place}
+use Rattle.hot_units.specs.declared.cube.Axis.{Axis}
 use Rattle.fixed_kernel.specs.Softened.{scaled_root}
 use Rattle.pull_bound.specs.Exact.{along, Source, source, IsAtMost, IsAtLeast}
 

@@ -2,16 +2,16 @@
 use Rattle.std.proofs.Common.{ℕ, ◌≡◌, ◌+◌, true, false, List, [], length, map, sum_by, sym, ap, ◌∙◌, subst, inl, inr, arith, Some}
 use Rattle.std.specs.Prelude.{Contains, ◌↔◌}
 use Rattle.std.proofs.lemmas.Option.{slice_get-get_or}
-use Rattle.hot_model.specs.Values.{BodyValue}
+use Rattle.hot_units.specs.Values.{BodyValue}
+use Rattle.hot_units.proofs.Members.{nil_has}
+use Rattle.hot_units.proofs.Sorts.{ascends_same}
 use Rattle.hot_model.specs.declared.visit.Visit as visits
 use Rattle.hot_model.specs.declared.visit.Seen as seens
-use Rattle.hot_model.specs.World.{World, piece}
-use Rattle.hot_model.specs.Needs.{Needs, needed}
-use Rattle.hot_model.specs.Pairs.{PairValue, rests_at, still_asked}
-use Rattle.hot_model.proofs.Members.{nil_has}
-use Rattle.hot_model.proofs.Homes.{ascends_same}
-use Rattle.hot_model.proofs.Counts.{needed-are, needed_ascend}
-use Rattle.hot_model.proofs.Demands.{needs-are-asks}
+use Rattle.rank_model.specs.World.{World, piece}
+use Rattle.rank_model.specs.Needs.{Needs, needed}
+use Rattle.rank_model.specs.Pairs.{PairValue, rests_at, still_asked}
+use Rattle.rank_model.proofs.Demands.{needs-are-asks}
+use Rattle.rank_model.proofs.Counts.{needed-are, needed_ascend}
 use Rattle.defer_walk.specs.declared.listed.Listed.{Listed}
 use Rattle.defer_walk.specs.Asked.{asked_keys}
 use Rattle.defer_walk.specs.Standing.{VisitOf, WalkState, fold_in, opened_by, left_to_open, pairs_in}

@@ -2,7 +2,7 @@
 use Rattle.std.proofs.Common.{ℕ, ◌≡◌, List, [], ◌∷◌, refl, sym, ap, ◌∙◌, subst, inl, inr, Some, None}
 use Rattle.hot_model.specs.declared.visit.Visit as visits
 use Rattle.hot_model.specs.declared.visit.Seen as seens
-use Rattle.hot_model.specs.World.{World}
+use Rattle.rank_model.specs.World.{World}
 use Rattle.cell_mail.specs.Letters.{LetterValue}
 use Rattle.rank_core.specs.Seat.{Seat}
 use Rattle.rank_core.specs.Seats.{seat_of, visit_of}

@@ -1,10 +1,10 @@
 -- What any list of calls leaves of a rank.
 use Rattle.std.specs.Prelude.{ℕ, ◌≡◌, ◌↔◌, length, map, sum_by, Contains, List, [], ◌∷◌, Option, Some, None, ◌⊎◌}
-use Rattle.hot_model.specs.Values.{BodyValue}
+use Rattle.hot_units.specs.Values.{BodyValue}
 use Rattle.hot_model.specs.declared.visit.Visit as visits
 use Rattle.hot_model.specs.declared.visit.Seen as seens
-use Rattle.hot_model.specs.World.{World, piece}
-use Rattle.hot_model.specs.Needs.{needed}
+use Rattle.rank_model.specs.World.{World, piece}
+use Rattle.rank_model.specs.Needs.{needed}
 use Rattle.cell_mail.specs.Letters.{LetterValue}
 use Rattle.defer_walk.specs.Standing.{VisitOf, fold_in, opened_by}
 use Rattle.rank_core.specs.Seat.{IsFresh, Finished, with_letter, refused}

@@ -1,8 +1,8 @@
 -- What a rank holds beside its walk, and what it means that this is true of a world.
 use Rattle.std.specs.Prelude.{ℕ, ◌≡◌, ◌≢◌, ◌<◌, ◌≤◌, Bool, true, false, List, ◌++◌, length, All, Option, Some, None, IfSome, IsSome, slice_get}
-use Rattle.hot_model.specs.Limits.{max_ranks, max_leaf}
-use Rattle.hot_model.specs.World.{World, IsGood, piece, left_of, right_of}
-use Rattle.hot_model.specs.Branches.{branch_records}
+use Rattle.hot_units.specs.Limits.{max_ranks, max_leaf}
+use Rattle.rank_model.specs.World.{World, IsGood, piece, left_of, right_of}
+use Rattle.rank_model.specs.Branches.{branch_records}
 use Rattle.cell_mail.specs.Grammar.{IsBelowRoot}
 use Rattle.cell_mail.specs.Letters.{LetterValue}
 use Rattle.branch_merge.specs.declared.listed.Listed.{Listed}

@@ -1,8 +1,10 @@
 -- What reading does to a rank.
 use Rattle.std.specs.Prelude.{ℕ, ◌≡◌, ◌+◌, ◌≤◌, eqb, if◌then◌else◌, List, [], map, All, Contains}
-use Rattle.hot_model.specs.World.{World}
-use Rattle.hot_model.specs.declared.list.Answered.{Answered}
-use Rattle.hot_model.specs.Answers.{true_answer}
+use Rattle.hot_model.specs.declared.answer.Answered.{Answered}
+use Rattle.hot_model.specs.declared.visit.Visit as visits
+use Rattle.hot_model.specs.declared.visit.Seen as seens
+use Rattle.rank_model.specs.World.{World}
+use Rattle.rank_model.specs.Answers.{true_answer}
 use Rattle.cell_mail.specs.Letters.{LetterValue}
 use Rattle.defer_walk.specs.Asked.{asked_keys}
 use Rattle.defer_walk.specs.Standing.{VisitOf, WalkState, IsSameWalk, given_of}
@@ -15,8 +17,6 @@ use Rattle.rank_core.specs.Seat.{all_answered, all_told, asked_by, answered_in, 
 use Rattle.rank_core.specs.Mail.{keys_for}
 use Rattle.rank_core.specs.Part.{IsRequest}
 use Rattle.rank_core.specs.Standing.{Holds, IsOpen, meant_by}
-use Rattle.hot_model.specs.declared.visit.Visit as visits
-use Rattle.hot_model.specs.declared.visit.Seen as seens
 
 -- the keys of items of an answers letter
 abbrev pub item_keys : List Answered → List ℕ

@@ -1,11 +1,12 @@
 -- A rank, as the others see it, and what one step of it does.
 use Rattle.std.specs.Prelude.{ℕ, zero, suc, ◌+◌, ◌≡◌, ◌≢◌, ◌<◌, ◌≤◌, Bool, true, false, eqb, leb, if◌then◌else◌, List, [], ◌∷◌, ◌++◌, map, filter, Contains, ◌⊎◌}
-use Rattle.hot_model.specs.Values.{BodyValue, CellValue}
-use Rattle.hot_model.specs.World.{World}
-use Rattle.hot_model.specs.Branches.{IsBranch, parent, branch_records}
-use Rattle.hot_model.specs.Needs.{Needs, IsAbove}
-use Rattle.hot_model.specs.Answers.{true_answer}
-use Rattle.hot_model.specs.declared.list.Answered.{Answered}
+use Rattle.hot_units.specs.Values.{BodyValue, CellValue}
+use Rattle.hot_units.specs.Keys.{parent}
+use Rattle.hot_model.specs.declared.answer.Answered.{Answered}
+use Rattle.rank_model.specs.World.{World}
+use Rattle.rank_model.specs.Branches.{IsBranch, branch_records}
+use Rattle.rank_model.specs.Needs.{Needs, IsAbove}
+use Rattle.rank_model.specs.Answers.{true_answer}
 use Rattle.cell_mail.specs.declared.content.Content.{Content}
 use Rattle.cell_mail.specs.declared.content.Content.TheVariants as content
 use Rattle.cell_mail.specs.Letters.{LetterValue}

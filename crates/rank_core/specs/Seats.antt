@@ -1,10 +1,10 @@
 -- A rank as the other ranks see it.
 use Rattle.std.specs.Prelude.{ℕ, ◌≡◌, ◌↔◌, length, map, sum_by, Contains, Bool, true, false, not, ◌&&◌, List, [], ◌∷◌, All, Option, Some, None}
-use Rattle.hot_model.specs.Values.{BodyValue, CellValue}
+use Rattle.hot_units.specs.Values.{BodyValue, CellValue}
 use Rattle.hot_model.specs.declared.visit.Visit as visits
 use Rattle.hot_model.specs.declared.visit.Seen as seens
-use Rattle.hot_model.specs.World.{World, piece}
-use Rattle.hot_model.specs.Needs.{needed}
+use Rattle.rank_model.specs.World.{World, piece}
+use Rattle.rank_model.specs.Needs.{needed}
 use Rattle.cell_mail.specs.Letters.{LetterValue}
 use Rattle.defer_walk.specs.declared.listed.Listed.{Listed}
 use Rattle.defer_walk.specs.Standing.{WalkState, given_of, fold_in, opened_by}

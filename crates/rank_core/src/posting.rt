@@ -2,7 +2,7 @@
 //! ascending receiver.
 ghost use Rattle.std.specs.Prelude.{◌≡◌, ◌≢◌, ◌<◌, ◌≤◌, ◌++◌, ℕ, length, map, All, IfOk, OnOk};
 ghost use Rattle.std.specs.Prelude.{OnErr};
-ghost use Rattle.hot_model.specs.Limits.{max_ranks};
+ghost use Rattle.hot_units.specs.Limits.{max_ranks};
 ghost use Rattle.cell_mail.specs.declared.content.Content.TheVariants as content;
 ghost use Rattle.cell_mail.specs.Grammar.{HasSpelling};
 ghost use Rattle.rank_core.specs.Mail as mail;
@@ -11,7 +11,8 @@ ghost use Rattle.rank_core.specs.Seat.{each_below, branches_to};
 use crate::place::Place;
 use crate::request::{Request, keys_for};
 use cell_mail::Letter;
-use hot_model::{AnswerList, Answered, KeyList, RecList};
+use hot_model::{AnswerList, Answered, RecList};
+use hot_units::KeyList;
 use local_tree::LocalTree;
 use std::alloc::{AllocError, Global};
 use std::collections::VecDeque;

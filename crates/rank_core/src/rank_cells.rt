@@ -1,19 +1,21 @@
 ghost use Rattle.std.specs.Prelude.{◌≡◌, ◌<◌, ℕ, ◌||◌, leb, eqb, length};
-ghost use Rattle.hot_model.specs.Limits.{max_level};
-ghost use Rattle.hot_model.specs.Keys.{IsCell};
-ghost use Rattle.hot_model.specs.Keys as keys;
-ghost use Rattle.hot_model.specs.World.{World, record_in, bodies_in};
-ghost use Rattle.hot_model.specs.Needs.{part_of};
+ghost use Rattle.hot_units.specs.Limits.{max_level};
+ghost use Rattle.hot_units.specs.Keys.{IsCell};
+ghost use Rattle.hot_units.specs.Keys as keys;
+ghost use Rattle.rank_model.specs.World.{World, record_in, bodies_in};
+ghost use Rattle.rank_model.specs.Needs.{part_of};
 ghost use Rattle.branch_merge.specs.Tops as tops;
 ghost use Rattle.local_tree.specs.Pieces.{IsBetween};
 ghost use Rattle.rank_core.specs.RankTree.{IsRankTree, IsShared};
 
 use branch_merge::Top;
 use defer_walk::Cells;
-use hot_model::limits::MAX_LEVEL;
-use hot_model::{Body, CellRec, Part, level};
+use hot_model::CellRec;
+use hot_units::limits::MAX_LEVEL;
+use hot_units::{Body, level};
 use local_tree::LocalTree;
 use morton_key::child;
+use rank_model::Part;
 
 /// The key of the root.
 const ROOT: u64 = 1;

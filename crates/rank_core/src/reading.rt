@@ -1,6 +1,6 @@
 //! A rank reads its inbox.
 ghost use Rattle.std.specs.Prelude.{◌≡◌, ◌≤◌, ◌++◌, [], ℕ, map, Contains, OnOk, IfOk};
-ghost use Rattle.hot_model.specs.World.{World};
+ghost use Rattle.rank_model.specs.World.{World};
 ghost use Rattle.defer_walk.specs.Standing.{answer_of};
 ghost use Rattle.rank_core.specs.Times.{times};
 ghost use Rattle.rank_core.specs.Part.{AreAsked};
@@ -15,7 +15,8 @@ use crate::request::Request;
 use crate::state::State;
 use cell_mail::{Content, Letter};
 use defer_walk::Walk;
-use hot_model::{AnswerList, KeyList, Visit};
+use hot_model::{AnswerList, Visit};
+use hot_units::KeyList;
 use std::alloc::AllocError;
 
 /// Notes the requests of another rank.

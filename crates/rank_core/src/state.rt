@@ -1,5 +1,5 @@
 ghost use Rattle.std.specs.Prelude.{◌≡◌, List, true, not, map, IsSome, IfSome, IfOk, OnOk, OnErr};
-ghost use Rattle.hot_model.specs.World.{World};
+ghost use Rattle.rank_model.specs.World.{World};
 ghost use Rattle.rank_core.specs.Part.{IsPartOf, WherePart, Adds, AreAsked, AreAsking, AreAllHeard};
 ghost use Rattle.rank_core.specs.Part.{SameBut, OnlyPosts, OnlyMerges, is_there};
 ghost use Rattle.cell_mail.specs.Letters.{LetterValue};
@@ -15,7 +15,7 @@ use crate::rank_cells::RankCells;
 use crate::request::{Request, by_key};
 use branch_merge::Top;
 use cell_mail::Letter;
-use hot_model::Body;
+use hot_units::Body;
 use local_tree::LocalTree;
 use std::alloc::{AllocError, Global};
 use std::collections::VecDeque;

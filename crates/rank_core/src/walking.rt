@@ -1,7 +1,7 @@
 //! A rank walks, and collects what it lacks.
 ghost use Rattle.std.specs.Prelude.{◌≡◌, ◌≤◌, ◌++◌, [], ℕ, ◌⊎◌, true, false, not, map, All};
 ghost use Rattle.std.specs.Prelude.{Contains, IsSome, OnOk, IfOk};
-ghost use Rattle.hot_model.specs.World.{World};
+ghost use Rattle.rank_model.specs.World.{World};
 ghost use Rattle.defer_walk.specs.Asked.{asked_keys, Extends};
 ghost use Rattle.defer_walk.specs.Standing.{IsSameWalk, IsSameStage, given_of};
 ghost use Rattle.rank_core.specs.RankTree.{IsRankTree};

@@ -2,11 +2,11 @@
 use Rattle.std.proofs.Common.{ℕ, suc, zero, ◌≡◌, Bool, List, [], ◌∷◌, ◌++◌, length, map, sum_by, Contains, ◌⊎◌, ◌↔◌, Some, slice_get, refl, ap, sym, ◌∙◌, subst, inl, inr, arith, length-append}
 use Rattle.std.proofs.lemmas.List.{map-append, length-map}
 use Rattle.std.proofs.lemmas.List.Elements.{Contains-append_left, Contains-append_right, Contains-append_cases}
-use Rattle.hot_model.specs.Values.{BodyValue, CellValue}
-use Rattle.hot_model.specs.World.{World, IsGood, piece}
-use Rattle.hot_model.specs.Branches.{numbers_below}
-use Rattle.hot_model.specs.Needs.{needed}
-use Rattle.hot_model.proofs.Members.{nil_has}
+use Rattle.hot_units.specs.Values.{BodyValue, CellValue}
+use Rattle.hot_units.specs.Numbers.{numbers_below}
+use Rattle.hot_units.proofs.Members.{nil_has}
+use Rattle.rank_model.specs.World.{World, IsGood, piece}
+use Rattle.rank_model.specs.Needs.{needed}
 use Rattle.defer_walk.specs.Standing.{VisitOf, fold_in, opened_by}
 use Rattle.rank_set.specs.declared.found.Effort.{Effort}
 use Rattle.rank_set.specs.Efforts.{effort_of, opened_of_rank, bodies_below, IsOpenedBy, AreFinds, AreFindsTo, AreFindsIn}

@@ -1,7 +1,7 @@
 -- A rank that stands for a world is finished where its seat is.
 use Rattle.hot_model.specs.declared.visit.Visit as visits
 use Rattle.hot_model.specs.declared.visit.Seen as seens
-use Rattle.hot_model.specs.World.{World}
+use Rattle.rank_model.specs.World.{World}
 use Rattle.rank_core.specs.Seat.{Finished}
 use Rattle.rank_core.specs.Seats.{seat_of, IsFinished}
 use Rattle.rank_core.specs.Standing.{RankState, StandsIn, meant_by}

@@ -1,9 +1,9 @@
 -- Ranks that are made one by one.
 use Rattle.std.proofs.Common.{ℕ, zero, suc, ◌≡◌, ◌<◌, ◌≤◌, List, [], ◌∷◌, ◌++◌, length, Option, Some, None, Result, Ok, Err, IfOk, slice_get, refl, ap, sym, ◌∙◌, subst, inl, inr, arith}
 use Rattle.std.specs.Prelude.{◌⊎◌, slice_range}
-use Rattle.hot_model.specs.Values.{BodyValue}
-use Rattle.hot_model.specs.World.{World, IsGood, piece, left_of, right_of}
-use Rattle.body_set.specs.Sets.{OrderedValue, IsOrderedSet}
+use Rattle.hot_units.specs.Values.{BodyValue}
+use Rattle.rank_model.specs.World.{World, IsGood, piece, left_of, right_of}
+use Rattle.key_order.specs.Ordered.{OrderedValue, IsOrderedSet}
 use Rattle.work_split.specs.Values.{PiecesValue}
 use Rattle.work_split.specs.Splits.{world_of, ranks_of, pieces_of, IsRun}
 use Rattle.work_split.proofs.Cuts.{pieces_make_a_world}

@@ -2,12 +2,11 @@
 use Rattle.std.proofs.Common.{ℕ, zero, suc, ◌≡◌, ◌<◌, ◌≤◌, true, false, eqb, ltb, List, [], ◌∷◌, ◌++◌, All, Contains, filter, refl, ap, sym, ◌∙◌, inl, inr, arith, append_assoc}
 use Rattle.std.proofs.lemmas.Bool.{cases_lt, le-ltb, lt-ltb, eq-eqb, ne_eqb}
 use Rattle.std.proofs.lemmas.List.Elements.{All-contains}
-use Rattle.hot_model.specs.Values.{BodyValue}
-use Rattle.hot_model.specs.Keys.{key_of_body}
-use Rattle.hot_model.specs.World.{World, IsGood, rank_of, piece}
-use Rattle.hot_model.proofs.Ranges.{Rising, NoneBelow}
-use Rattle.hot_model.proofs.Members.{head_has, tail_has}
-use Rattle.hot_model.proofs.Worlds.{rising_in_order}
+use Rattle.hot_units.specs.Values.{BodyValue}
+use Rattle.hot_units.specs.Keys.{key_of_body}
+use Rattle.hot_units.proofs.Members.{head_has, tail_has}
+use Rattle.hot_model.proofs.Ranges.{Rising, NoneBelow, rising_in_order}
+use Rattle.rank_model.specs.World.{World, IsGood, rank_of, piece}
 use Rattle.rank_set.specs.Efforts.{bodies_below}
 
 -- the numbers of a list never fall

@@ -3,8 +3,8 @@ use Rattle.std.proofs.Common.{◌≡◌, ◌≢◌, ℕ, zero, suc, ◌+◌, ◌
 use Rattle.std.specs.List.{SwappedAt}
 use Rattle.std.proofs.lemmas.Bool.{cases_eq, eq-eqb, ne_eqb}
 use Rattle.std.proofs.lemmas.List.{get_or-set_same, get_or-set_other, get_or_default, length-set, get_or-map, length-map}
-use Rattle.hot_model.specs.Values.{BodyValue}
-use Rattle.hot_model.specs.Forces.{RowsDiffer}
+use Rattle.hot_units.specs.Values.{BodyValue}
+use Rattle.hot_units.specs.Bodies.{RowsDiffer}
 use Rattle.rank_set.specs.Places.{ArePlaced}
 
 -- the result of each body stands beside its row, the rows differ, and those below `place` stand at their own places

@@ -1,10 +1,10 @@
 -- What the ranks of a walk find.
 use Rattle.std.specs.Prelude.{ℕ, zero, suc, ◌≡◌, ◌↔◌, Bool, List, [], ◌++◌, length, map, sum_by, Contains}
-use Rattle.hot_model.specs.Values.{BodyValue, CellValue}
+use Rattle.hot_units.specs.Values.{BodyValue, CellValue}
+use Rattle.hot_units.specs.Numbers.{numbers_below}
 use Rattle.hot_model.specs.Trees.{opened}
-use Rattle.hot_model.specs.World.{World, piece}
-use Rattle.hot_model.specs.Branches.{numbers_below}
-use Rattle.hot_model.specs.Needs.{needed}
+use Rattle.rank_model.specs.World.{World, piece}
+use Rattle.rank_model.specs.Needs.{needed}
 use Rattle.defer_walk.specs.Standing.{VisitOf, fold_in}
 use Rattle.rank_set.specs.declared.found.Effort.{Effort}
 

@@ -1,6 +1,6 @@
 -- A rank that was made for a world.
 use Rattle.std.specs.Prelude.{ℕ, ◌≡◌}
-use Rattle.hot_model.specs.World.{World}
+use Rattle.rank_model.specs.World.{World}
 use Rattle.rank_core.specs.Seat.{IsNew}
 use Rattle.rank_core.specs.Standing.{RankState}
 use Rattle.rank_core.specs.Seats.{seat_of, visit_of}

@@ -1,7 +1,7 @@
 -- The world of a set that is shared out.
-use Rattle.hot_model.specs.World.{World}
-use Rattle.hot_model.specs.Split.{weight_in, split_world}
-use Rattle.body_set.specs.Sets.{OrderedValue}
+use Rattle.rank_model.specs.World.{World}
+use Rattle.rank_model.specs.Split.{weight_in, split_world}
+use Rattle.key_order.specs.Ordered.{OrderedValue}
 use Rattle.rank_set.specs.declared.sharing.Sharing.{Sharing}
 
 -- the bodies, split by their weights over the ranks, with the leaf limit

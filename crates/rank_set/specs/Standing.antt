@@ -2,7 +2,7 @@
 use Rattle.std.specs.Prelude.{suc, List}
 use Rattle.hot_model.specs.declared.visit.Visit as visits
 use Rattle.hot_model.specs.declared.visit.Seen as seens
-use Rattle.hot_model.specs.World.{World}
+use Rattle.rank_model.specs.World.{World}
 use Rattle.rank_core.specs.Standing.{RankState, StandsIn, InEachWorld, meant_by}
 use Rattle.rank_core.specs.Seats.{seat_of, visit_of}
 use Rattle.protocol.specs.Ranks.{Together}

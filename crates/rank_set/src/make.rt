@@ -1,7 +1,7 @@
 // The ranks of a set that is split.
 ghost use Rattle.std.specs.Prelude.{◌≡◌, ◌<◌, ◌≤◌, length, IfOk};
-ghost use Rattle.hot_model.specs.Limits.{max_ranks};
-ghost use Rattle.hot_model.specs.World.{IsGood};
+ghost use Rattle.hot_units.specs.Limits.{max_ranks};
+ghost use Rattle.rank_model.specs.World.{IsGood};
 ghost use Rattle.rank_core.specs.Standing.{StandsIn};
 ghost use Rattle.protocol.specs.Joint.{AllNew};
 ghost use Rattle.protocol.specs.Ranks.{seats};
@@ -11,8 +11,8 @@ ghost use Rattle.rank_set.specs.Standing.{StandTogether};
 ghost use Rattle.work_split.specs.Splits.{ranks_of, pieces_of};
 
 use crate::Sharing;
-use body_set::Ordered;
 use hot_model::Visit;
+use key_order::Ordered;
 use rank_core::Rank;
 use std::alloc::{AllocError, Global};
 use work_split::{Pieces, split};

@@ -1,9 +1,9 @@
 // Putting results into the order of rows.
 ghost use Rattle.std.specs.Prelude.{◌≡◌, ◌<◌, length, map, All, IfOk};
-ghost use Rattle.hot_model.specs.Forces.{RowsDiffer};
+ghost use Rattle.hot_units.specs.Bodies.{RowsDiffer};
 ghost use Rattle.rank_set.specs.Places.{ArePlaced};
 
-use hot_model::Body;
+use hot_units::Body;
 use std::alloc::{AllocError, Global};
 
 /// The rows of bodies, in their order.

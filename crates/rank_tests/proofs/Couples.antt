@@ -1,7 +1,7 @@
 -- Two ranks that have done nothing yet.
 use Rattle.std.proofs.Common.{ℕ, zero, suc, ◌≡◌, List, [], ◌∷◌, subst, sym, Some, None}
 use Rattle.std.specs.Prelude.{slice_get}
-use Rattle.hot_model.specs.World.{World, IsGood}
+use Rattle.rank_model.specs.World.{World, IsGood}
 use Rattle.rank_core.specs.Seat.{IsNew}
 use Rattle.rank_core.specs.Seats.{seat_of, visit_of}
 use Rattle.rank_core.specs.Standing.{RankState}

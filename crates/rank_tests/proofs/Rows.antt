@@ -3,14 +3,15 @@ use Rattle.std.proofs.Common.{ℕ, zero, suc, ◌≡◌, ◌≢◌, ◌+◌, ◌
 use Rattle.std.specs.Prelude.{Contains}
 use Rattle.std.proofs.lemmas.Bool.{cases_lt, eq-eqb, ne_eqb, lt-ltb, le-ltb}
 use Rattle.std.proofs.lemmas.List.Elements.{All-nil, All-cons, Contains-append_right}
-use Rattle.hot_model.specs.Keys.{key_to, key_of_body}
-use Rattle.hot_model.specs.Values.{BodyValue, CellValue}
-use Rattle.hot_model.specs.Order.{before, IsInOrder}
-use Rattle.hot_model.specs.Forces.{RowsCount}
-use Rattle.hot_model.specs.World.{World, IsBody, IsGood, piece, left_of, right_of, greatest, least}
-use Rattle.hot_model.specs.declared.list.Answered.{Answered}
-use Rattle.hot_model.proofs.Members.{nil_has, has_map}
-use Rattle.hot_model.proofs.Owners.{one_owner}
+use Rattle.hot_units.specs.Values.{BodyValue, CellValue}
+use Rattle.hot_units.specs.Numbers.{greatest, least}
+use Rattle.hot_units.specs.Keys.{key_to, key_of_body}
+use Rattle.hot_units.specs.Order.{before, IsInOrder}
+use Rattle.hot_units.specs.Bodies.{RowsCount, IsBody}
+use Rattle.hot_units.proofs.Members.{nil_has, has_map}
+use Rattle.hot_model.specs.declared.answer.Answered.{Answered}
+use Rattle.rank_model.specs.World.{World, IsGood, piece, left_of, right_of}
+use Rattle.rank_model.proofs.Owners.{one_owner}
 use Rattle.cell_mail.specs.declared.content.Content.{Content}
 use Rattle.cell_mail.specs.declared.content.Content.TheVariants as content
 use Rattle.cell_mail.specs.declared.content.Kind.TheVariants as kinds

@@ -1,10 +1,11 @@
 -- Two bodies, on one rank and on two, and five at one place on three.
 use Rattle.std.proofs.Common.{ℕ, zero, suc, ◌<◌, [], ◌∷◌, refl, arith, Some, None}
 use Rattle.std.proofs.lemmas.List.Elements.{All-nil, All-cons}
-use Rattle.hot_model.specs.Keys.{key_to}
-use Rattle.hot_model.specs.Order.{before, IsInOrder}
-use Rattle.hot_model.specs.Forces.{RowsCount}
-use Rattle.hot_model.specs.World.{IsBody, IsGood, greatest, least}
+use Rattle.hot_units.specs.Numbers.{greatest, least}
+use Rattle.hot_units.specs.Keys.{key_to}
+use Rattle.hot_units.specs.Order.{before, IsInOrder}
+use Rattle.hot_units.specs.Bodies.{RowsCount, IsBody}
+use Rattle.rank_model.specs.World.{IsGood}
 use Rattle.defer_walk.specs.Listing.{IsListing}
 use Rattle.defer_walk.proofs.Listings.{good_of}
 use Rattle.rank_core.specs.Standing.{IsHere}

@@ -1,7 +1,7 @@
 -- Worlds of the tests, and how two ranks stand in them between two rounds.
 use Rattle.std.specs.Prelude.{ℕ, ◌≡◌, ◌+◌, ◌*◌, ◌≤◌, true, List, [], ◌∷◌, ◌++◌, replicate, Contains}
-use Rattle.hot_model.specs.Values.{BodyValue}
-use Rattle.hot_model.specs.World.{World}
+use Rattle.hot_units.specs.Values.{BodyValue}
+use Rattle.rank_model.specs.World.{World}
 use Rattle.cell_mail.specs.declared.content.Kind.{Kind}
 use Rattle.cell_mail.specs.declared.content.Kind.TheVariants.{Branches}
 use Rattle.cell_mail.specs.Letters.{LetterValue, kind_of}

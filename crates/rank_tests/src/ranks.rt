@@ -1,7 +1,7 @@
 // Worked cases of ranks, letter by letter.
 ghost use Rattle.std.specs.Prelude.{◌≡◌, ◌≢◌, [], false, Some};
 ghost use Rattle.cell_mail.specs.Letters.{kind_of};
-ghost use Rattle.hot_model.specs.World.{World};
+ghost use Rattle.rank_model.specs.World.{World};
 ghost use Rattle.rank_core.specs.Seat.{IsFresh, IsNew, Moves, with_letter};
 ghost use Rattle.rank_core.specs.Seats.{FitsALetter, IsItsLetter, Popped, StandsByLetter, seat_of};
 ghost use Rattle.rank_core.specs.Seats.{visit_of};

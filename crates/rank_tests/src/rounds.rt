@@ -3,13 +3,14 @@ ghost use Rattle.std.specs.Prelude.{◌≡◌};
 
 use crate::samples::{crowded, empty, first, gravity, second};
 use defer_walk::WalkResult;
-use hot_model::{Mail, Visit};
-use round_runner::{Gate, MeetGate, MemWire, OpenGate, Wire};
-use runs::run;
+use hot_model::Visit;
+use hot_units::Mail;
+use round_runner::run;
 use std::alloc::Global;
 use std::process::Abort;
 use std::rt::HostRuntime;
 use std::thread::Threads;
+use wire::{Gate, MeetGate, MemWire, OpenGate, Wire};
 
 /// The results of both after a run with a mail that ends in so many rounds.
 fn whole<R: Threads + Sync + Abort, V: Visit, G: Gate>(

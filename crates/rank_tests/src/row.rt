@@ -4,7 +4,7 @@
 // letters more.
 ghost use Rattle.std.specs.Prelude.{◌≡◌, ◌<◌, ◌+◌, ◌∷◌, [], ℕ, Some};
 ghost use Rattle.cell_mail.specs.declared.content.Kind.TheVariants as kinds;
-ghost use Rattle.hot_model.specs.World.{left_of, right_of, piece};
+ghost use Rattle.rank_model.specs.World.{left_of, right_of, piece};
 ghost use Rattle.rank_core.specs.Times.{times};
 ghost use Rattle.rank_core.specs.Seat.{IsNew};
 ghost use Rattle.rank_core.specs.Seats.{seat_of, Popped};
@@ -15,7 +15,8 @@ use crate::ranks::{advance, hand, next, quiet};
 use crate::samples::{body, gravity};
 use cell_mail::{Kind, Letter};
 use defer_walk::WalkResult;
-use hot_model::{Body, Visit};
+use hot_model::Visit;
+use hot_units::Body;
 use rank_core::Rank;
 use std::alloc::Global;
 use std::process::Abort;

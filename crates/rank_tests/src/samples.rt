@@ -6,7 +6,8 @@ ghost use Rattle.rank_core.specs.Standing.{StandsIn};
 ghost use Rattle.rank_tests.specs.Worlds as worlds;
 
 use fixed_kernel::{Eps, ForceVisit, Ratio};
-use hot_model::{Body, Visit, body_of};
+use hot_model::Visit;
+use hot_units::{Body, body_of};
 use rank_core::Rank;
 use std::alloc::Global;
 use std::process::Abort;

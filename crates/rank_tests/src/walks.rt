@@ -1,14 +1,14 @@
 // Two bodies on two ranks, by hand: the root is a leaf that both ranks share, so each body opens it
 // and needs the branch of the other rank.
 use crate::samples::gravity;
-use body_set::{BodySet, Ordered};
-use hot_model::{Acc3, Cube, Mail};
+use body_set::BodySet;
+use hot_units::{Acc3, Cube, Mail, RawRow};
+use key_order::Ordered;
 use rank_walk::{Effort, Found, Sharing, place_by_row, walk_over_ranks};
-use round_runner::{MemWire, OpenGate, Wire};
-use sdf_rows::RawRow;
 use std::alloc::Global;
 use std::process::Abort;
 use std::thread::Threads;
+use wire::{MemWire, OpenGate, Wire};
 
 const CUBE: Cube = Cube {
     bits: 21,

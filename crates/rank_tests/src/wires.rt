@@ -1,15 +1,15 @@
 // Worked cases: the order of letters and of log entries under each mail, and who meets at a gate.
 ghost use Rattle.std.specs.Prelude.{◌≡◌, ◌≤◌, ◌<◌, ◌+◌, ◌⊎◌, [], length, true, false};
 ghost use Rattle.cell_mail.specs.Letters.{AreRanks};
-ghost use Rattle.round_runner.specs.Desk.{letters_in, rounds_in};
-ghost use Rattle.round_runner.specs.declared.wire.Turn.TheVariants as turns;
+ghost use Rattle.wire.specs.Desk.{letters_in, rounds_in};
+ghost use Rattle.wire.specs.declared.wire.Turn.TheVariants as turns;
 
 use cell_mail::{Kind, Letter};
-use hot_model::Mail;
-use round_runner::{Entry, Gate, Log, MeetGate, MemWire, OpenGate, Wire};
+use hot_units::Mail;
 use std::alloc::Global;
 use std::process::Abort;
 use std::thread::join;
+use wire::{Entry, Gate, Log, MeetGate, MemWire, OpenGate, Wire};
 
 /// A branches letter without items.
 const NO_BRANCHES: [u8; 6] = [2, 1, 0, 0, 0, 0];

@@ -1,11 +1,11 @@
 -- What a walk over ranks leaves on the wire.
 use Rattle.std.specs.Prelude.{ℕ, ◌+◌, ◌-◌, ◌*◌, ◌≡◌, ◌≤◌, ◌⊎◌, Bool, true, [], Result, Ok, Err}
 use Rattle.std.specs.declared.alloc.AllocError.{AllocError}
-use Rattle.hot_model.specs.Values.{BodyValue, CellValue}
-use Rattle.hot_model.specs.World.{World}
-use Rattle.hot_model.specs.Needs.{round_bound}
-use Rattle.hot_model.specs.declared.mail.Mail.{Mail}
-use Rattle.round_runner.specs.Desk.{Desk, letters_in, rounds_in}
+use Rattle.hot_units.specs.Values.{BodyValue, CellValue}
+use Rattle.hot_units.specs.declared.mail.Mail.{Mail}
+use Rattle.rank_model.specs.World.{World}
+use Rattle.rank_model.specs.Needs.{round_bound}
+use Rattle.wire.specs.Desk.{Desk, letters_in, rounds_in}
 use Rattle.protocol.specs.Logs.{Legal, Complete, IsPrompt, needs_in_all, prompt_rounds}
 
 -- a walk was begun with this mail, and its log is legal

@@ -1,17 +1,17 @@
 // The walk of all bodies over ranks.
 ghost use Rattle.std.specs.Prelude.{◌≡◌, [], IfOk};
-ghost use Rattle.round_runner.specs.Desk.{rounds_in};
+ghost use Rattle.wire.specs.Desk.{rounds_in};
 ghost use Rattle.rank_set.specs.Sharings.{shared};
 ghost use Rattle.rank_walk.specs.Marks.{Leaves};
 ghost use Rattle.rank_set.specs.Standing.{AreFoundBy};
 
-use body_set::Ordered;
 use hot_model::Visit;
+use key_order::Ordered;
 use rank_set::{Found, Sharing, gather, make_ranks};
-use round_runner::{Gate, Wire};
-use runs::run;
+use round_runner::run;
 use std::alloc::{AllocError, Global};
 use std::thread::Threads;
+use wire::{Gate, Wire};
 
 /// Walks all bodies of a set through one tree, shared out over ranks that step on threads and send
 /// each other letters (Warren and Salmon, 1993): the set is split by its work weights, each rank

@@ -1,24 +1,9 @@
-//! What carries letters between ranks, with a log of what happened, and what ranks enter before
-//! they step.
-//!
-//! After the schedules of a model of message passing: which letter comes next, and how many come in
-//! a round, is the wire's choice, and whoever uses a wire meets its contract under every choice.
+//! The rounds of all ranks, over any wire and gate; it hands on those of the crate wire.
 #![tactic(auto)]
 
-mod draw;
-mod entry;
-mod gate;
-mod log;
-mod meet_gate;
-mod mem_wire;
-mod starve_wire;
-mod wire;
+mod rounds;
 
-pub use draw::{drawn, next_state};
-pub use entry::{Entry, Note};
-pub use gate::{Gate, OpenGate};
-pub use log::Log;
-pub use meet_gate::MeetGate;
-pub use mem_wire::MemWire;
-pub use starve_wire::StarveWire;
-pub use wire::{PostRefused, Turn, Wire};
+pub use rounds::run;
+pub use wire::{
+    Entry, Gate, Log, MeetGate, MemWire, Note, OpenGate, PostRefused, StarveWire, Turn, Wire,
+};

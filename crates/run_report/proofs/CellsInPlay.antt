@@ -10,16 +10,15 @@ use Rattle.std.proofs.lemmas.List.Elements.{Contains-append_left, Contains-appen
 use Rattle.std.proofs.lemmas.List.Kept.{Contains-dedup_nat, Contains-from_dedup}
 use Rattle.std.proofs.lemmas.List.Sorted.{IsPermutation-sym, Contains-permutation}
 use Rattle.std.proofs.lemmas.Map.Keys.{IsStrictlyIncreasing-dedup}
-use Rattle.hot_model.specs.Values.{BodyValue, CellValue}
+use Rattle.hot_units.specs.Values.{BodyValue, CellValue}
+use Rattle.hot_units.proofs.Members.{filter_has, has_filter, any_has, has_any}
+use Rattle.hot_units.proofs.Sorts.{ascends_filter, ascends_strict, ascends_same}
 use Rattle.hot_model.specs.Trees.{opened}
-use Rattle.hot_model.specs.World.{World, IsGood}
-use Rattle.hot_model.specs.Branches.{cells}
-use Rattle.hot_model.specs.Needs.{is_opened, is_listed, met_cells}
-use Rattle.hot_model.proofs.Members.{filter_has, has_filter, any_has, has_any}
-use Rattle.hot_model.proofs.Sorts.{ascends_filter, ascends_strict}
-use Rattle.hot_model.proofs.Counts.{cells-are, cells_ascend}
-use Rattle.hot_model.proofs.Demands.{opened_sound}
-use Rattle.hot_model.proofs.Homes.{ascends_same}
+use Rattle.hot_model.specs.Cells.{cells}
+use Rattle.hot_model.proofs.Cells.{cells-are, cells_ascend}
+use Rattle.rank_model.specs.World.{World, IsGood}
+use Rattle.rank_model.specs.Needs.{is_opened, is_listed, met_cells}
+use Rattle.rank_model.proofs.Demands.{opened_sound}
 use Rattle.branch_merge.specs.declared.listed.Listed.{Listed}
 use Rattle.branch_merge.proofs.Lists.{strict_ascends}
 use Rattle.rank_set.specs.Efforts.{IsOpenedBy}

@@ -3,16 +3,15 @@ use Rattle.std.proofs.Common.{ℕ, zero, suc, ◌≡◌, ◌+◌, ◌-◌, ◌/�
 use Rattle.std.specs.Prelude.{Contains, ◌⊎◌, count_by}
 use Rattle.std.proofs.lemmas.Bool.{cases_eq, eq-eqb, ne_eqb}
 use Rattle.std.proofs.lemmas.List.Sums.{sum_by-cons, sum_by-append}
-use Rattle.hot_model.specs.Values.{CellValue}
-use Rattle.hot_model.specs.Keys.{HasLevel}
-use Rattle.hot_model.specs.Trees.{child, digits, opened_in, opened}
-use Rattle.hot_model.specs.World.{World}
-use Rattle.hot_model.proofs.Members.{head_has, tail_has, has_flat, have_digits}
-use Rattle.hot_model.proofs.Sorts.{Ascends, above_member}
-use Rattle.hot_model.proofs.Children.{digits_ascend}
-use Rattle.hot_model.proofs.Fronts.{drop_twice, parent_of_child, one_level}
+use Rattle.hot_units.specs.Values.{CellValue}
+use Rattle.hot_units.specs.Keys.{HasLevel, child, digits}
+use Rattle.hot_units.proofs.Members.{head_has, tail_has, has_flat, have_digits}
+use Rattle.hot_units.proofs.Sorts.{Ascends, above_member, digits_ascend}
+use Rattle.hot_model.specs.Trees.{opened_in, opened}
 use Rattle.hot_model.proofs.Parts.{child-level}
-use Rattle.hot_model.proofs.Asks.{Empty, Shut, Last, Parted, way, opened-empty, opened-shut, opened-last, opened-parted, Found, opened_child, opened_found}
+use Rattle.hot_model.proofs.Fronts.{drop_twice, parent_of_child, one_level}
+use Rattle.rank_model.specs.World.{World}
+use Rattle.rank_model.proofs.Asks.{Empty, Shut, Last, Parted, way, opened-empty, opened-shut, opened-last, opened-parted, Found, opened_child, opened_found}
 
 abbrev one_if : Bool → ℕ
 one_if b = cond b 1 0

@@ -3,15 +3,17 @@ use Rattle.std.proofs.Common.{ℕ, zero, suc, ◌≡◌, Bool, List, [], ◌∷�
 use Rattle.std.specs.Prelude.{◌||◌}
 use Rattle.std.proofs.lemmas.List.{length-map}
 use Rattle.std.proofs.lemmas.List.Elements.{filter_agree}
-use Rattle.hot_model.specs.Values.{BodyValue}
-use Rattle.hot_model.specs.World.{World, IsGood, bodies_in}
-use Rattle.hot_model.specs.Split.{weight_in, split_world}
-use Rattle.hot_model.specs.Branches.{cells, is_branch, first_rank, numbers_below}
-use Rattle.hot_model.specs.Needs.{is_listed, met_cells, round_bound}
-use Rattle.hot_model.proofs.Homes.{map_same}
-use Rattle.body_set.specs.Sets.{OrderedValue}
-use Rattle.round_runner.specs.declared.entry.Entry.{Entry}
-use Rattle.round_runner.specs.Desk.{letters_in, rounds_in}
+use Rattle.hot_units.specs.Values.{BodyValue}
+use Rattle.hot_units.specs.Numbers.{numbers_below}
+use Rattle.hot_units.proofs.Members.{map_same}
+use Rattle.hot_model.specs.Cells.{cells}
+use Rattle.rank_model.specs.World.{World, IsGood, bodies_in}
+use Rattle.rank_model.specs.Split.{weight_in, split_world}
+use Rattle.rank_model.specs.Branches.{is_branch, first_rank}
+use Rattle.rank_model.specs.Needs.{is_listed, met_cells, round_bound}
+use Rattle.key_order.specs.Ordered.{OrderedValue}
+use Rattle.wire.specs.declared.entry.Entry.{Entry}
+use Rattle.wire.specs.Desk.{letters_in, rounds_in}
 use Rattle.branch_merge.specs.declared.listed.Listed.{Listed}
 use Rattle.defer_walk.specs.Standing.{VisitOf}
 use Rattle.split_table.specs.Table.{branch_cells, branch_of, branches_over}

@@ -1,11 +1,11 @@
 -- What the numbers of a report count.
 use Rattle.std.specs.Prelude.{ℕ, ◌≤◌, Bool, eqb, count_by, Contains, ◌↔◌, ◌⊎◌}
 use Rattle.std.specs.List.Sorted.{IsStrictlyIncreasing}
-use Rattle.hot_model.specs.Values.{BodyValue, CellValue}
+use Rattle.hot_units.specs.Values.{BodyValue, CellValue}
 use Rattle.hot_model.specs.Trees.{opened}
-use Rattle.hot_model.specs.World.{World, IsGood}
-use Rattle.hot_model.specs.Branches.{IsBranch}
-use Rattle.hot_model.specs.Needs.{Needs, needed, met_cells}
+use Rattle.rank_model.specs.World.{World, IsGood}
+use Rattle.rank_model.specs.Branches.{IsBranch}
+use Rattle.rank_model.specs.Needs.{Needs, needed, met_cells}
 use Rattle.rank_set.specs.Efforts.{IsOpenedBy}
 
 -- a body opens no cell twice; the cells that a rank asks for are those that it needs, each once; the cells in play are those

@@ -1,13 +1,13 @@
 -- What a run over ranks shows.
 use Rattle.std.specs.Prelude.{ℕ, ◌≤◌, ◌+◌, ◌-◌, ◌*◌, ◌^◌, ◌+ℤ◌, ◌↔◌, ◌⊎◌, nat_abs, Bool, List, length, map, sum_by, Contains}
 use Rattle.std.specs.List.Sorted.{IsStrictlyIncreasing}
-use Rattle.hot_model.specs.Values.{BodyValue, CellValue, Acc3Value, Vector}
+use Rattle.hot_units.specs.Values.{BodyValue, CellValue, Acc3Value, Vector}
+use Rattle.hot_units.specs.Numbers.{numbers_below}
 use Rattle.hot_model.specs.Trees.{total}
-use Rattle.hot_model.specs.World.{World}
-use Rattle.hot_model.specs.Branches.{numbers_below}
-use Rattle.hot_model.specs.Needs.{met_cells, round_bound}
-use Rattle.round_runner.specs.declared.entry.Entry.{Entry}
-use Rattle.round_runner.specs.Desk.{letters_in, rounds_in}
+use Rattle.rank_model.specs.World.{World}
+use Rattle.rank_model.specs.Needs.{met_cells, round_bound}
+use Rattle.wire.specs.declared.entry.Entry.{Entry}
+use Rattle.wire.specs.Desk.{letters_in, rounds_in}
 use Rattle.branch_merge.specs.declared.listed.Listed.{Listed}
 use Rattle.split_table.specs.Table.{branch_cells, branch_of}
 use Rattle.rank_set.specs.declared.found.Effort.{Effort}

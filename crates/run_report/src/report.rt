@@ -1,15 +1,15 @@
 ghost use Rattle.std.specs.Prelude.{◌≡◌, ◌≤◌, List, length, IfOk};
-ghost use Rattle.hot_model.specs.Limits.{max_ranks};
-ghost use Rattle.round_runner.specs.declared.entry.Entry.{Entry};
-ghost use Rattle.round_runner.specs.Desk.{letters_in, rounds_in};
+ghost use Rattle.hot_units.specs.Limits.{max_ranks};
+ghost use Rattle.wire.specs.declared.entry.Entry.{Entry};
+ghost use Rattle.wire.specs.Desk.{letters_in, rounds_in};
 ghost use Rattle.defer_walk.specs.Standing.{VisitOf};
 ghost use Rattle.rank_set.specs.Sharings.{shared};
 ghost use Rattle.rank_set.specs.Efforts.{AreFindsIn};
 ghost use Rattle.run_report.specs.Report as reports;
 
 use crate::cells::cells_in_play;
-use body_set::Ordered;
 use branch_merge::Listed;
+use key_order::Ordered;
 use rank_set::{Effort, Found, Sharing};
 use split_table::branches_of_ranks;
 use std::alloc::{AllocError, Global};
@@ -30,7 +30,7 @@ pub struct RunReport {
 
 impl Model for RunReport {
     ghost use Rattle.std.specs.Prelude.{◌≤◌, length};
-    ghost use Rattle.hot_model.specs.Limits.{max_ranks};
+    ghost use Rattle.hot_units.specs.Limits.{max_ranks};
     ghost use Rattle.run_report.specs.Report.{ReportValue};
 
     ghost Value = { ReportValue };

@@ -1,9 +1,9 @@
 ghost use Rattle.std.specs.Prelude.{◌≡◌, ◌<◌, ◌≤◌, ◌+◌, ◌*◌, ◌^◌, ◌+ℤ◌, nat_abs, length};
-ghost use Rattle.hot_model.specs.Limits.{max_bodies};
+ghost use Rattle.hot_units.specs.Limits.{max_bodies};
 ghost use Rattle.run_report.specs.Report as reports;
 
 use crate::RunReport;
-use hot_model::Acc3;
+use hot_units::Acc3;
 use std::marker::Model;
 
 /// The sum of forces, by its components.

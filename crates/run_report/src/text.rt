@@ -1,6 +1,6 @@
 // A report as text, and the line of a run on generated bodies.
 ghost use Rattle.std.specs.Prelude.{◌≡◌, ◌≤◌, ◌+◌, ◌++◌, length, flat_map, sum_by};
-ghost use Rattle.hot_model.specs.Limits.{max_ranks};
+ghost use Rattle.hot_units.specs.Limits.{max_ranks};
 ghost use Rattle.hot_io.specs.Faults.{FailsExactly};
 ghost use Rattle.hot_io.specs.Writing.{Puts, Writes};
 ghost use Rattle.run_report.specs.Text as text;

@@ -2,7 +2,7 @@
 use Rattle.std.proofs.Common.{◌≡◌, ℕ, ◌+◌, ◌-◌, ◌≤◌, Bool, true, false, cond, nat_le, List, [], ◌∷◌, ◌++◌, length, take, drop, Option, Some, None, Result, Ok, Err, IfOk, refl, sym, ap, subst, ◌∙◌, append_assoc, arith}
 use Rattle.std.proofs.lemmas.List.{length-append, append-nil, length-take-le, take-append-le, take-append-drop}
 use Rattle.std.proofs.lemmas.Bool.{lt-leb, leb-true}
-use Rattle.hot_model.specs.Limits.{max_header_bytes}
+use Rattle.hot_units.specs.Limits.{max_header_bytes}
 use Rattle.sdf_header.specs.declared.header_fault.HeaderFault.{HeaderFault}
 use Rattle.sdf_header.specs.declared.header_fault.HeaderFault.TheVariants.{NoMagic, TooLong}
 use Rattle.sdf_header.specs.Extent.{agrees, magic, is_ending, whole_lines, first_ending, ending, Extent, Faulty, Ends, Open, extent_from, extent, Shows, Scans, Stands}

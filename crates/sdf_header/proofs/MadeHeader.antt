@@ -11,7 +11,7 @@ use Rattle.std.proofs.lemmas.Fmt.{decimal_nonempty, digits_decimal, digits_value
 use Rattle.std.proofs.lemmas.List.{append-nil, length-append}
 use Rattle.std.proofs.lemmas.Str.Parse.{tells_all_ascii_digits, IsNumeralModel, numerals_by_value}
 use Rattle.std.proofs.Math.Seq.{take-append_seam, drop-append_seam}
-use Rattle.hot_model.specs.Limits.{max_bodies, max_header_bytes}
+use Rattle.hot_units.specs.Limits.{max_bodies, max_header_bytes}
 use Rattle.sdf_header.specs.declared.kind.Whole.TheVariants as wholes
 use Rattle.sdf_header.specs.declared.kind.Kind.TheVariants as kinds
 use Rattle.sdf_header.specs.declared.document.Value.TheVariants as values

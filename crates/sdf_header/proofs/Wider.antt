@@ -4,7 +4,7 @@ use Rattle.std.specs.Prelude.{nat_lt}
 use Rattle.std.specs.List.{All}
 use Rattle.std.proofs.lemmas.List.Elements.{All-push, All-weaker}
 use Rattle.std.proofs.lemmas.Bool.{le-ltb}
-use Rattle.hot_model.specs.Limits.{max_row_bytes}
+use Rattle.hot_units.specs.Limits.{max_row_bytes}
 use Rattle.sdf_header.specs.declared.kind.Kind.{Kind}
 use Rattle.sdf_header.specs.declared.kind.Whole.{Whole}
 use Rattle.sdf_header.specs.declared.kind.Whole.TheVariants as wholes

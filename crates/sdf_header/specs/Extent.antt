@@ -1,7 +1,7 @@
 -- Where a header ends.
 use Rattle.std.specs.Prelude.{◌≡◌, ℕ, ◌+◌, ◌<◌, ◌≤◌, Bool, true, false, ◌&&◌, ◌||◌, List, [], ◌∷◌, ◌++◌, length, drop, Option, Some, None, Result, Ok, Err, nat_eq, nat_le, ◌==◌, if◌then◌else◌, codes}
 use Rattle.std.specs.List.{starts_with}
-use Rattle.hot_model.specs.Limits.{max_header_bytes}
+use Rattle.hot_units.specs.Limits.{max_header_bytes}
 use Rattle.sdf_header.specs.declared.header_fault.HeaderFault.{HeaderFault}
 use Rattle.sdf_header.specs.declared.header_fault.HeaderFault.TheVariants.{NoMagic, TooLong}
 use Rattle.sdf_tokens.specs.Numbers.{begins_with}

@@ -1,7 +1,7 @@
 -- What a header says of the rows behind it.
 use Rattle.std.specs.Prelude.{ℕ, ◌≤◌, Option}
-use Rattle.hot_model.specs.Values.{CubeValue}
-use Rattle.hot_model.specs.Limits.{max_row_bytes}
+use Rattle.hot_units.specs.Limits.{max_row_bytes}
+use Rattle.hot_units.specs.Values.{CubeValue}
 use Rattle.sdf_header.specs.declared.layout.Order.{Order}
 use Rattle.sdf_header.specs.declared.layout.Col.{Col}
 use Rattle.sdf_header.specs.Types.{Fits, FitsIfThere}

@@ -1,4 +1,4 @@
--- The limit of arrays in a header. All other limits stand in hot_model and sdf_tokens.
+-- The limit of arrays in a header. All other limits stand in hot_units and sdf_tokens.
 use Rattle.std.specs.Prelude.{ℕ}
 
 -- the longest array column

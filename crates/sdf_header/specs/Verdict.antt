@@ -1,8 +1,8 @@
 -- The verdict of a header: its layout, or the fault that refuses it.
 use Rattle.std.specs.Prelude.{◌≡◌, ℕ, ◌-◌, not, ◌&&◌, List, [], ◌∷◌, length, take, Option, Some, None, Result, Ok, Err, ℤ, pos, negsuc, nat_le, nat_lt, ◌==◌, if◌then◌else◌, codes}
 use Rattle.std.specs.Str.{bytes_eq}
-use Rattle.hot_model.specs.Values.{CubeValue}
-use Rattle.hot_model.specs.Limits.{fine_bits, max_bodies, max_body_mass}
+use Rattle.hot_units.specs.Limits.{fine_bits, max_bodies, max_body_mass}
+use Rattle.hot_units.specs.Values.{CubeValue}
 use Rattle.sdf_header.specs.declared.header_fault.HeaderFault.{HeaderFault}
 use Rattle.sdf_header.specs.declared.header_fault.HeaderFault.TheVariants as faults
 use Rattle.sdf_header.specs.declared.header_fault.ColName.{ColName}

@@ -15,7 +15,7 @@ use crate::kind::Kind;
 use crate::limits::MAX_ARRAY_LENGTH;
 use crate::parts::{is_the, named, sign_at, size_at, type_at, word_at};
 use crate::types::bytes_of;
-use hot_model::limits::{MAX_COLUMNS, MAX_ROW_BYTES};
+use hot_units::limits::{MAX_COLUMNS, MAX_ROW_BYTES};
 use sdf_tokens::{Fault, FaultKind, Lexed, Token, fault_at, next, syntax_at};
 use std::alloc::Global;
 

@@ -2,7 +2,7 @@
 
 ghost use Rattle.std.specs.Prelude.{◌≤◌, All};
 ghost use Rattle.std.proofs.Props.{props};
-ghost use Rattle.hot_model.specs.Limits.{max_row_bytes};
+ghost use Rattle.hot_units.specs.Limits.{max_row_bytes};
 ghost use Rattle.sdf_header.specs.Types.{LiesIn};
 
 use crate::kind::Kind;

@@ -1,12 +1,12 @@
 //! Where a header ends.
 
 ghost use Rattle.std.specs.Prelude.{◌≡◌, ◌≤◌, ◌++◌, ◌∷◌, [], take, length, vec_capacity};
-ghost use Rattle.hot_model.specs.Limits.{max_header_bytes};
+ghost use Rattle.hot_units.specs.Limits.{max_header_bytes};
 ghost use Rattle.sdf_header.specs.Extent.{agrees, magic, contains, is_ending, closes, line_behind};
 ghost use Rattle.sdf_header.specs.Extent.{extent, Scans, Stands};
 
 use crate::header_fault::HeaderFault;
-use hot_model::limits::MAX_HEADER_BYTES;
+use hot_units::limits::MAX_HEADER_BYTES;
 
 const MAGIC: &[u8; 5] = b"# SDF";
 

@@ -1,7 +1,7 @@
 //! The header that this project writes before generated bodies is one that it reads.
 
 ghost use Rattle.std.specs.Prelude.{◌≤◌};
-ghost use Rattle.hot_model.specs.Limits.{max_bodies};
+ghost use Rattle.hot_units.specs.Limits.{max_bodies};
 ghost use Rattle.sdf_header.specs.Generated.{GeneratedHeaderReads};
 
 /// The header of a file of so many generated bodies has their layout, whatever rows follow.

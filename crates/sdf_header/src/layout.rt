@@ -2,7 +2,7 @@
 
 use crate::header_fault::HeaderFault;
 use crate::kind::Whole;
-use hot_model::Cube;
+use hot_units::Cube;
 use std::marker::Model;
 use thiserror::Error;
 

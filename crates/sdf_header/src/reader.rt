@@ -10,7 +10,7 @@ use crate::extent::scan;
 use crate::header_fault::HeaderFault;
 use crate::layout::{HeaderError, Layout};
 use crate::verdict::judge;
-use hot_model::limits::MAX_HEADER_BYTES;
+use hot_units::limits::MAX_HEADER_BYTES;
 use std::alloc::{AllocError, Global};
 use std::marker::Model;
 
@@ -41,7 +41,7 @@ impl Model for HeaderReader {
 
     ghost Value = { List ℕ };
 
-    ghost use Rattle.hot_model.specs.Limits.{max_header_bytes};
+    ghost use Rattle.hot_units.specs.Limits.{max_header_bytes};
     ghost use Rattle.sdf_header.specs.Extent.{Stands};
 
     ghost view = { λ r. r.kept.items };

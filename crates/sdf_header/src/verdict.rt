@@ -1,7 +1,7 @@
 //! The layout that a header gives, or its fault.
 
 ghost use Rattle.std.specs.Prelude.{◌≡◌, ◌+◌, ◌≤◌, length, IfOk, IfSome};
-ghost use Rattle.hot_model.specs.Limits.{max_header_bytes};
+ghost use Rattle.hot_units.specs.Limits.{max_header_bytes};
 ghost use Rattle.sdf_header.specs.Types.{bytes_of, Fits, FitsIfThere};
 ghost use Rattle.sdf_header.specs.Layouts.{IsLayout};
 ghost use Rattle.sdf_header.specs.Parts.{given_of};
@@ -17,8 +17,8 @@ use crate::header_fault::{ColName, HeaderFault, ParamName};
 use crate::kind::Kind;
 use crate::layout::{Col, HeaderError, Layout, Order};
 use crate::statement::header_in;
-use hot_model::Cube;
-use hot_model::limits::{FINE_BITS, MAX_BODIES, MAX_BODY_MASS};
+use hot_units::Cube;
+use hot_units::limits::{FINE_BITS, MAX_BODIES, MAX_BODY_MASS};
 use sdf_tokens::{Fault, FaultKind};
 use std::alloc::Global;
 use std::collections::BTreeMap;

@@ -1,7 +1,7 @@
 -- What the reader of rows keeps of the bytes that it was given, and answers to a piece.
 use Rattle.std.specs.Prelude.{◌≡◌, ℕ, ◌-◌, ◌*◌, ◌/◌, Bool, false, List, [], ◌∷◌, ◌++◌, length, take, drop, Option, Some, None, Result, Ok, Err, nat_le, nat_lt, if◌then◌else◌}
 use Rattle.sdf_header.specs.Layouts.{LayoutValue}
-use Rattle.sdf_rows.specs.declared.raw_row.RawRow.{RawRow}
+use Rattle.hot_units.specs.declared.raw_row.RawRow.{RawRow}
 use Rattle.sdf_rows.specs.declared.raw_row.RowFault.{RowFault}
 use Rattle.sdf_rows.specs.declared.raw_row.RowFault.TheVariants.{Trailing}
 use Rattle.sdf_rows.specs.declared.raw_row.RowStep.{RowStep}

@@ -1,7 +1,7 @@
 -- The rows of a list of bytes, and how they end.
 use Rattle.std.specs.Prelude.{ℕ, zero, suc, ◌*◌, ◌/◌, ◌-◌, ◌^◌, Bool, false, List, [], ◌∷◌, ◌++◌, length, take, drop, min, Option, Some, None, Result, Ok, Err, nat_lt, if◌then◌else◌}
 use Rattle.sdf_header.specs.Layouts.{LayoutValue}
-use Rattle.sdf_rows.specs.declared.raw_row.RawRow.{RawRow}
+use Rattle.hot_units.specs.declared.raw_row.RawRow.{RawRow}
 use Rattle.sdf_rows.specs.declared.raw_row.RowFault.{RowFault}
 use Rattle.sdf_rows.specs.declared.raw_row.RowFault.TheVariants.{Truncated, Trailing}
 use Rattle.sdf_rows.specs.Columns.{column_value, value_or, value_if_there, Is64Bits, Are64Bits}

@@ -4,7 +4,7 @@ ghost use Rattle.std.specs.Prelude.{◌≡◌, length};
 ghost use Rattle.sdf_rows.specs.Rows.{row_of, Has64Bits};
 
 use crate::column::{number_at, number_if_there, number_or};
-use crate::raw_row::RawRow;
+use hot_units::RawRow;
 use sdf_header::Layout;
 
 /// The row of this number in its bytes.

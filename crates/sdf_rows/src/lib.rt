@@ -6,5 +6,6 @@ mod layout_row;
 mod raw_row;
 mod reader;
 
-pub use raw_row::{RawRow, RowFault, RowStep};
+pub use hot_units::RawRow;
+pub use raw_row::{RowFault, RowStep};
 pub use reader::Rows;

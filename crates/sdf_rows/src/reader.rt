@@ -7,8 +7,9 @@ ghost use Rattle.sdf_rows.specs.Reading.{IsBehind, reader_behind, is_full, answe
 ghost use Rattle.sdf_rows.specs.Reading.{given_by};
 
 use crate::layout_row::row_of;
-use crate::raw_row::{RawRow, RowFault, RowStep};
-use hot_model::limits::MAX_ROW_BYTES;
+use crate::raw_row::{RowFault, RowStep};
+use hot_units::RawRow;
+use hot_units::limits::MAX_ROW_BYTES;
 use sdf_header::Layout;
 use std::marker::Model;
 
@@ -28,7 +29,7 @@ pub struct Rows {
 
 impl Model for Rows {
     ghost use Rattle.std.specs.Prelude.{◌≡◌, ◌≤◌, take, length};
-    ghost use Rattle.hot_model.specs.Limits.{max_row_bytes};
+    ghost use Rattle.hot_units.specs.Limits.{max_row_bytes};
     ghost use Rattle.sdf_header.specs.Layouts.{IsLayout};
     ghost use Rattle.sdf_rows.specs.Reading.{RowsValue};
 

@@ -1,4 +1,4 @@
--- The limit of texts in a header. All other limits stand in hot_model and sdf_header.
+-- The limit of texts in a header. All other limits stand in hot_units and sdf_header.
 use Rattle.std.specs.Prelude.{ℕ}
 
 -- the longest text between quotes, in bytes

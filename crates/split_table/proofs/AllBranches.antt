@@ -5,16 +5,17 @@ use Rattle.std.specs.List.Sorted.{IsPermutation}
 use Rattle.std.proofs.lemmas.Bool.{cases_lt}
 use Rattle.std.proofs.lemmas.List.{map-id}
 use Rattle.std.proofs.lemmas.Simd.{map-map}
-use Rattle.hot_model.specs.Values.{CellValue}
+use Rattle.hot_units.specs.Values.{CellValue}
+use Rattle.hot_units.proofs.Members.{filter_has, has_filter, map_has, has_map, map_same}
+use Rattle.hot_units.proofs.Sorts.{Ascends, ascends_filter, ascends_same}
 use Rattle.hot_model.specs.Trees.{cell_record}
-use Rattle.hot_model.specs.World.{World, IsGood, bodies_in}
-use Rattle.hot_model.specs.Branches.{IsBranch, first_rank, is_branch, cells}
-use Rattle.hot_model.specs.Needs.{is_listed}
-use Rattle.hot_model.proofs.Members.{filter_has, has_filter, map_has, has_map}
-use Rattle.hot_model.proofs.Owners.{first_of_own}
-use Rattle.hot_model.proofs.Sorts.{Ascends, ascends_filter}
-use Rattle.hot_model.proofs.Counts.{cells-are, cells_ascend, test_of_branch, branch_of_test}
-use Rattle.hot_model.proofs.Homes.{ascends_same, map_same}
+use Rattle.hot_model.specs.Cells.{cells}
+use Rattle.hot_model.proofs.Cells.{cells-are, cells_ascend}
+use Rattle.rank_model.specs.World.{World, IsGood, bodies_in}
+use Rattle.rank_model.specs.Branches.{IsBranch, first_rank, is_branch}
+use Rattle.rank_model.specs.Needs.{is_listed}
+use Rattle.rank_model.proofs.Owners.{first_of_own}
+use Rattle.rank_model.proofs.Counts.{test_of_branch, branch_of_test}
 use Rattle.branch_merge.specs.declared.listed.Listed.{Listed}
 use Rattle.branch_merge.specs.Listing.{all_listed}
 use Rattle.branch_merge.specs.Laws.{branch_lists, AreTrue}

@@ -5,8 +5,8 @@ use Rattle.std.specs.List.Sorted.{IsPermutation, IsNonDecreasingBy}
 use Rattle.std.proofs.lemmas.Bool.{cases_eq, eq-eqb, ne_eqb}
 use Rattle.std.proofs.lemmas.List.Sums.{sum_by-cons}
 use Rattle.std.proofs.lemmas.List.Sorted.{sum_by-IsPermutation, IsPermutation-map}
-use Rattle.hot_model.proofs.Members.{head_has, tail_has, cons_cases, nil_has, has_map}
-use Rattle.hot_model.proofs.Sorts.{AllAbove, Ascends}
+use Rattle.hot_units.proofs.Members.{head_has, tail_has, cons_cases, nil_has, has_map}
+use Rattle.hot_units.proofs.Sorts.{AllAbove, Ascends}
 use Rattle.branch_merge.specs.declared.listed.Listed.{Listed}
 use Rattle.branch_merge.proofs.Lists.{Differ}
 

@@ -3,18 +3,20 @@ use Rattle.std.proofs.Common.{ℕ, suc, ◌≡◌, ◌+◌, ◌<◌, ◌≤◌, 
 use Rattle.std.specs.Option.{IfSome}
 use Rattle.std.proofs.lemmas.List.{length-map, map-append}
 use Rattle.std.proofs.lemmas.List.Filters.{length-filter_both}
-use Rattle.hot_model.specs.Limits.{max_all_mass}
-use Rattle.hot_model.specs.Values.{BodyValue, CellValue}
-use Rattle.hot_model.specs.Keys.{HasLevel, key_of_body}
-use Rattle.hot_model.specs.Trees.{mass_of, mass_of_body, cell_record}
-use Rattle.hot_model.specs.World.{World, IsGood, rank_of, piece, left_of, right_of}
-use Rattle.hot_model.specs.Branches.{numbers_below, branches, branch_records}
-use Rattle.hot_model.specs.Homes.{home_branches}
+use Rattle.hot_units.specs.Limits.{max_all_mass}
+use Rattle.hot_units.specs.Values.{BodyValue, CellValue}
+use Rattle.hot_units.specs.Numbers.{numbers_below}
+use Rattle.hot_units.specs.Keys.{HasLevel, key_of_body}
+use Rattle.hot_units.specs.Bodies.{mass_of, mass_of_body}
+use Rattle.hot_units.proofs.Bodies.{sum_filter_le}
+use Rattle.hot_model.specs.Trees.{cell_record}
 use Rattle.hot_model.proofs.Fronts.{body_level}
-use Rattle.hot_model.proofs.Homes.{left_body, right_body, home-branches}
-use Rattle.hot_model.proofs.Worlds.{sum_filter_le}
+use Rattle.rank_model.specs.World.{World, IsGood, rank_of, piece, left_of, right_of}
+use Rattle.rank_model.specs.Branches.{branches, branch_records}
+use Rattle.rank_model.specs.Homes.{home_branches}
+use Rattle.rank_model.proofs.Homes.{left_body, right_body, home-branches}
 use Rattle.morton_key.specs.Ranges.{IsBodyKey}
-use Rattle.body_set.specs.Sets.{OrderedValue, IsOrderedSet}
+use Rattle.key_order.specs.Ordered.{OrderedValue, IsOrderedSet}
 use Rattle.work_split.specs.Values.{PiecesValue}
 use Rattle.work_split.specs.Splits.{ranks_of, weight_of, world_of}
 use Rattle.work_split.proofs.Cuts.{pieces_make_a_world}

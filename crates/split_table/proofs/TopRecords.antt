@@ -4,12 +4,14 @@ use Rattle.std.specs.List.Sorted.{IsPermutation}
 use Rattle.std.proofs.lemmas.List.{map_more}
 use Rattle.std.proofs.lemmas.List.Elements.{Contains-get_or}
 use Rattle.std.proofs.lemmas.List.Filters.{length-filter_both}
-use Rattle.hot_model.specs.Limits.{max_bodies}
-use Rattle.hot_model.specs.Values.{CellValue}
+use Rattle.hot_units.specs.Limits.{max_bodies}
+use Rattle.hot_units.specs.Values.{CellValue}
 use Rattle.hot_model.specs.Trees.{cell_record}
-use Rattle.hot_model.specs.World.{World}
-use Rattle.hot_model.specs.Branches.{IsTop, is_top, cells, tops, joined_record}
-use Rattle.hot_model.proofs.Counts.{cells_short, tops-are}
+use Rattle.hot_model.specs.Cells.{cells}
+use Rattle.hot_model.proofs.Cells.{cells_short}
+use Rattle.rank_model.specs.World.{World}
+use Rattle.rank_model.specs.Branches.{IsTop, is_top, tops, joined_record}
+use Rattle.rank_model.proofs.Counts.{tops-are}
 use Rattle.branch_merge.specs.declared.listed.Listed.{Listed}
 use Rattle.branch_merge.specs.Listing.{all_listed, records}
 use Rattle.branch_merge.specs.Tops.{AreTops}

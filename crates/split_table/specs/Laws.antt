@@ -1,8 +1,8 @@
 -- What the lists of a table are in the words of branches and top cells.
 use Rattle.std.specs.Prelude.{ℕ, ◌≡◌, ◌↔◌, Contains}
 use Rattle.std.specs.List.Sorted.{IsStrictlyIncreasing}
-use Rattle.hot_model.specs.World.{World, IsGood}
-use Rattle.hot_model.specs.Branches.{IsBranch, IsTop, tops as top_cells}
+use Rattle.rank_model.specs.World.{World, IsGood}
+use Rattle.rank_model.specs.Branches.{IsBranch, IsTop, tops as top_cells}
 use Rattle.split_table.specs.Table.{branch_cells, branch_of}
 
 -- the listed branches ascend strictly and are those of all ranks, each with its rank; the listed top cells ascend strictly and are all top cells

@@ -1,10 +1,10 @@
 -- What the steps to a table stand on.
 use Rattle.std.specs.Prelude.{ℕ, ◌≡◌, ◌≤◌, List}
 use Rattle.std.specs.List.Sorted.{IsPermutation, IsNonDecreasingBy}
-use Rattle.hot_model.specs.Limits.{max_ranks}
-use Rattle.hot_model.specs.Values.{CellValue}
-use Rattle.hot_model.specs.World.{World, IsGood}
-use Rattle.body_set.specs.Sets.{OrderedValue}
+use Rattle.hot_units.specs.Limits.{max_ranks}
+use Rattle.hot_units.specs.Values.{CellValue}
+use Rattle.rank_model.specs.World.{World, IsGood}
+use Rattle.key_order.specs.Ordered.{OrderedValue}
 use Rattle.work_split.specs.Values.{PiecesValue}
 use Rattle.work_split.specs.Splits.{ranks_of, pieces_of}
 use Rattle.branch_merge.specs.declared.listed.Listed.{Listed}

@@ -1,11 +1,13 @@
 -- What a split over ranks shows: the share of each rank, the branches, and the top cells.
 use Rattle.std.specs.Prelude.{ℕ, List, length, map, filter}
-use Rattle.hot_model.specs.Values.{CellValue}
+use Rattle.hot_units.specs.Values.{CellValue}
+use Rattle.hot_units.specs.Numbers.{numbers_below}
 use Rattle.hot_model.specs.Trees.{cell_record}
-use Rattle.hot_model.specs.World.{World, piece, bodies_in}
-use Rattle.hot_model.specs.Branches.{cells, branches, tops, first_rank, numbers_below}
-use Rattle.hot_model.specs.Needs.{is_listed}
-use Rattle.body_set.specs.Sets.{OrderedValue}
+use Rattle.hot_model.specs.Cells.{cells}
+use Rattle.rank_model.specs.World.{World, piece, bodies_in}
+use Rattle.rank_model.specs.Branches.{branches, tops, first_rank}
+use Rattle.rank_model.specs.Needs.{is_listed}
+use Rattle.key_order.specs.Ordered.{OrderedValue}
 use Rattle.work_split.specs.Splits.{world_of, weight_of}
 use Rattle.branch_merge.specs.declared.listed.Listed.{Listed}
 use Rattle.split_table.specs.declared.share.Share.{Share}

@@ -1,7 +1,7 @@
 -- A split as text: a first line, a line for each rank, for each branch and for each top cell, and a last line.
 use Rattle.std.specs.Prelude.{ℕ, List, ◌++◌, flat_map, codes, decimal}
 use Rattle.hot_io.specs.Writing.{line_end}
-use Rattle.hot_model.specs.Values.{CellValue}
+use Rattle.hot_units.specs.Values.{CellValue}
 use Rattle.branch_merge.specs.declared.listed.Listed.{Listed}
 use Rattle.split_table.specs.declared.share.Share.{Share}
 use Rattle.split_table.specs.Table.{TableValue}

@@ -1,15 +1,15 @@
 // The branches of all ranks in one list.
 ghost use Rattle.std.specs.Prelude.{◌≡◌, ◌≤◌, map, ltb, IfOk};
 ghost use Rattle.std.specs.Ordering.{is_lt};
-ghost use Rattle.hot_model.specs.Limits.{max_ranks};
-ghost use Rattle.hot_model.specs.World.{World};
+ghost use Rattle.hot_units.specs.Limits.{max_ranks};
+ghost use Rattle.rank_model.specs.World.{World};
 ghost use Rattle.split_table.specs.Table.{branch_of, branch_cells, branches_over};
 ghost use Rattle.split_table.specs.Steps.{AreLists, AreByKey};
 
 use crate::lists::lists_of;
-use body_set::Ordered;
 use branch_merge::{Listed, gathered};
 use hot_model::RecList;
+use key_order::Ordered;
 use std::alloc::{AllocError, Global};
 use std::cmp::Ordering;
 use work_split::split;

@@ -1,12 +1,13 @@
 // The branch lists of the ranks of a set that is split.
 ghost use Rattle.std.specs.Prelude.{◌≡◌, ◌<◌, IfOk};
-ghost use Rattle.hot_model.specs.World as world;
-ghost use Rattle.hot_model.specs.Branches.{branch_records};
+ghost use Rattle.rank_model.specs.World as world;
+ghost use Rattle.rank_model.specs.Branches.{branch_records};
 ghost use Rattle.work_split.specs.Splits.{world_of};
 ghost use Rattle.split_table.specs.Steps.{IsSplit, AreLists};
 
-use body_set::Ordered;
-use hot_model::{Body, RecList};
+use hot_model::RecList;
+use hot_units::Body;
+use key_order::Ordered;
 use local_tree::LocalTree;
 use std::alloc::{AllocError, Global};
 use work_split::Pieces;

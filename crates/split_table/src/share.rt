@@ -1,12 +1,12 @@
 ghost use Rattle.std.specs.Prelude.{◌≡◌, ◌<◌, IfOk, map};
-ghost use Rattle.hot_model.specs.Branches.{numbers_below};
+ghost use Rattle.hot_units.specs.Numbers.{numbers_below};
 ghost use Rattle.work_split.specs.Splits.{world_of};
 ghost use Rattle.split_table.specs.Table as tables;
 ghost use Rattle.split_table.specs.Steps.{IsSplit, AreLists};
 
 use crate::lists::bodies_of;
-use body_set::Ordered;
 use hot_model::RecList;
+use key_order::Ordered;
 use std::alloc::{AllocError, Global};
 use work_split::Pieces;
 

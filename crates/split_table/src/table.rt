@@ -1,5 +1,5 @@
 ghost use Rattle.std.specs.Prelude.{◌≡◌, ◌≤◌, IfOk};
-ghost use Rattle.hot_model.specs.Limits.{max_ranks};
+ghost use Rattle.hot_units.specs.Limits.{max_ranks};
 ghost use Rattle.split_table.specs.Table as tables;
 
 use crate::Share;
@@ -7,9 +7,9 @@ use crate::branches::all_branches;
 use crate::lists::lists_of;
 use crate::share::shares_of;
 use crate::tops::top_records;
-use body_set::Ordered;
 use branch_merge::Listed;
 use hot_model::CellRec;
+use key_order::Ordered;
 use std::alloc::{AllocError, Global};
 use std::marker::Model;
 use work_split::split;

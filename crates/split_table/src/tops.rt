@@ -1,8 +1,8 @@
 // The top cells.
 ghost use Rattle.std.specs.Prelude.{◌≡◌, map, IfOk};
 ghost use Rattle.hot_model.specs.Trees.{cell_record};
-ghost use Rattle.hot_model.specs.World.{World};
-ghost use Rattle.hot_model.specs.Branches as branches;
+ghost use Rattle.rank_model.specs.World.{World};
+ghost use Rattle.rank_model.specs.Branches as branches;
 ghost use Rattle.split_table.specs.Steps.{AreLists};
 
 use branch_merge::Top;

@@ -4,12 +4,12 @@ use Rattle.std.specs.Prelude.{All}
 use Rattle.std.proofs.lemmas.Bool.{lt-ltb, le-ltb, le-leb}
 use Rattle.std.proofs.lemmas.List.Elements.{All-head, All-tail}
 use Rattle.std.proofs.Math.Seq.{drop-append_seam}
-use Rattle.hot_model.specs.Limits.{max_bodies, max_body_mass}
-use Rattle.hot_model.specs.Values.{BodyValue, CubeValue}
-use Rattle.hot_model.specs.World.{IsBody}
+use Rattle.hot_units.specs.Limits.{max_bodies, max_body_mass}
+use Rattle.hot_units.specs.Values.{BodyValue, CubeValue}
+use Rattle.hot_units.specs.Bodies.{IsBody}
 use Rattle.sdf_header.specs.Extent.{Extent, Faulty, Ends, Open, extent}
 use Rattle.sdf_header.specs.Verdict.{verdict}
-use Rattle.sdf_rows.specs.declared.raw_row.RawRow.{RawRow}
+use Rattle.hot_units.specs.declared.raw_row.RawRow.{RawRow}
 use Rattle.sdf_rows.specs.Rows.{rows, ending, is_cut_at, is_beyond_at}
 use Rattle.body_set.specs.Rows.{body_of_row, fine, is_inside, is_between}
 use Rattle.body_set.specs.Sets.{bodies_from}

@@ -18,10 +18,10 @@ use Rattle.leap_frog.specs.Leap.{bodies_of}
 use Rattle.leap_frog.proofs.States.{bodies-moving, length-moving}
 use Rattle.state_file.specs.Texts.{StateFile, FilesHaveStates, state_of_rows, HasState, FitsIdent, IsSigned, is_unsigned, is_u64, velocity_of_row}
 use Rattle.state_file.specs.Commands.{AreBytes}
-use Rattle.hot_model.specs.Limits.{max_bodies, max_body_mass, fine_bits}
-use Rattle.hot_model.specs.Values.{BodyValue, CubeValue}
-use Rattle.hot_model.specs.World.{IsBody}
-use Rattle.hot_model.specs.Forces.{RowsCount}
+use Rattle.hot_units.specs.Limits.{max_bodies, max_body_mass, fine_bits}
+use Rattle.hot_units.specs.Values.{BodyValue, CubeValue}
+use Rattle.hot_units.specs.Bodies.{IsBody, RowsCount}
+use Rattle.hot_units.specs.declared.cube.Axis.TheVariants.{X, Y, Z}
 use Rattle.sdf_header.specs.declared.header_fault.HeaderFault.{HeaderFault}
 use Rattle.sdf_header.specs.declared.header_fault.HeaderFault.TheVariants as faults
 use Rattle.sdf_header.specs.declared.header_fault.ColName.TheVariants as columns
@@ -33,10 +33,9 @@ use Rattle.sdf_header.specs.Layouts.{LayoutValue}
 use Rattle.sdf_header.specs.Statements.{Header, header_in}
 use Rattle.sdf_header.specs.Extent.{Extent, Faulty, Ends, Open, extent}
 use Rattle.sdf_header.specs.Verdict.{or_fault, column, axes_of, optional_of, order_of, whole_param, bad, small_param, cube_of, mass_of, count_of, layout_of, placed, verdict_from, judged, verdict}
-use Rattle.sdf_rows.specs.declared.raw_row.RawRow.{RawRow}
+use Rattle.hot_units.specs.declared.raw_row.RawRow.{RawRow}
 use Rattle.body_set.specs.declared.fault.PushError.{PushError}
 use Rattle.body_set.specs.declared.fault.PushError.TheVariants.{TooMany, Outside, MassRange}
-use Rattle.hot_model.specs.declared.cube.Axis.TheVariants.{X, Y, Z}
 use Rattle.body_set.specs.Rows.{body_of_row, fine, is_inside, is_between}
 use Rattle.body_set.specs.Sets.{bodies_from}
 use Rattle.body_set.proofs.FirstFault.{first_by_tests}

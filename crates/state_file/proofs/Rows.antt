@@ -5,8 +5,8 @@ use Rattle.std.proofs.lemmas.List.{take_more, drop-drop, length-append, append-n
 use Rattle.std.proofs.lemmas.List.Elements.{All-head, All-tail}
 use Rattle.std.proofs.Math.Nat.{min-eq_left}
 use Rattle.byteorder.specs.Endian.{little_bytes, little_number, twos_complement}
-use Rattle.hot_model.specs.World.{IsBody}
-use Rattle.sdf_rows.specs.declared.raw_row.RawRow.{RawRow}
+use Rattle.hot_units.specs.Bodies.{IsBody}
+use Rattle.hot_units.specs.declared.raw_row.RawRow.{RawRow}
 use Rattle.sdf_rows.specs.Columns.{whole_value}
 use Rattle.sdf_rows.specs.Rows.{row_of, row_at, first_rows, rows, rows_in, row_number}
 use Rattle.leap_frog.specs.Leap.{Moving, bodies_of}

@@ -7,9 +7,9 @@ use Rattle.std.proofs.lemmas.Bool.{leb-true}
 use Rattle.std.proofs.Math.Bool.{and-true}
 use Rattle.std.proofs.Math.Dec.{leb}
 use Rattle.std.proofs.lemmas.List.Elements.{All-nil, All-cons, All-head, All-tail}
-use Rattle.hot_model.specs.declared.cube.Axis.TheVariants.{X, Y, Z}
-use Rattle.hot_model.specs.Values.{BodyValue, Vector}
-use Rattle.hot_model.specs.World.{IsBody}
+use Rattle.hot_units.specs.Values.{BodyValue, Vector}
+use Rattle.hot_units.specs.Bodies.{IsBody}
+use Rattle.hot_units.specs.declared.cube.Axis.TheVariants.{X, Y, Z}
 use Rattle.sdf_header.specs.Layouts.{LayoutValue}
 use Rattle.sdf_rows.specs.Rows.{rows}
 use Rattle.leap_frog.specs.Leap.{Moving, ForceLaw, Leaver, Stop, bodies_of, unless, kicked_by, kicked, drifted, leaving, leavers, step, steps, steps_from, steps_back, IsPlaced}

@@ -9,8 +9,7 @@ use Rattle.std.specs.Fmt.{decimal}
 use Rattle.byteorder.specs.Endian.{little_bytes}
 use Rattle.hot_io.specs.Writing.{Passes}
 use Rattle.hot_io.proofs.Blocks.{SendsFront, passes_added, cut_before}
-use Rattle.hot_model.specs.Values.{BodyValue}
-use Rattle.hot_model.specs.Kernel.{components}
+use Rattle.hot_units.specs.Values.{BodyValue, components}
 use Rattle.leap_frog.specs.States.{vector_of}
 use Rattle.leap_frog.specs.Leap.{Moving, bodies_of}
 use Rattle.state_file.specs.Headers.{ident_line, state_header}

@@ -1,16 +1,15 @@
 -- The body file of a state, and what a body file holds.
 use Rattle.std.specs.Prelude.{◌≡◌, ℕ, suc, ◌-◌, ◌^◌, ◌≤◌, ℤ, pos, negsuc, ◌≤ℤ◌, Bool, true, false, List, [], ◌∷◌, ◌++◌, length, map, drop, All, Option, Some, None, Ok}
 use Rattle.byteorder.specs.Endian.{little_bytes}
-use Rattle.hot_model.specs.Limits.{max_bodies}
-use Rattle.hot_model.specs.Values.{CubeValue, Vector}
-use Rattle.hot_model.specs.Forces.{RowsCount}
-use Rattle.hot_model.specs.World.{IsBody}
+use Rattle.hot_units.specs.Limits.{max_bodies}
+use Rattle.hot_units.specs.Values.{CubeValue, Vector}
+use Rattle.hot_units.specs.Bodies.{RowsCount, IsBody}
 use Rattle.sdf_header.specs.declared.kind.Whole.{Whole}
 use Rattle.sdf_header.specs.declared.kind.Whole.TheVariants as wholes
 use Rattle.sdf_header.specs.declared.layout.Col.{Col}
 use Rattle.sdf_header.specs.Layouts.{LayoutValue}
 use Rattle.sdf_header.specs.Verdict.{verdict}
-use Rattle.sdf_rows.specs.declared.raw_row.RawRow.{RawRow}
+use Rattle.hot_units.specs.declared.raw_row.RawRow.{RawRow}
 use Rattle.sdf_rows.specs.Rows.{rows}
 use Rattle.body_set.specs.Sets.{set_of_rows}
 use Rattle.body_file.specs.Faults.{decided}

@@ -2,7 +2,7 @@
 //! file can be taken back.
 
 ghost use Rattle.std.specs.Prelude.{◌≤◌};
-ghost use Rattle.hot_model.specs.Limits.{max_bodies};
+ghost use Rattle.hot_units.specs.Limits.{max_bodies};
 ghost use Rattle.state_file.specs.Headers.{StateHeaderReads};
 ghost use Rattle.state_file.specs.Texts.{FilesHaveStates, StatesReadBack};
 ghost use Rattle.state_file.specs.Commands.{FilesUndo};

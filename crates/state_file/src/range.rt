@@ -4,7 +4,7 @@ ghost use Rattle.leap_frog.specs.States.{vector_of};
 ghost use Rattle.state_file.specs.Texts.{IsWritable};
 ghost use Rattle.state_file.specs.Commands.{is_signed, past_63};
 
-use hot_model::{Axis, Body};
+use hot_units::{Axis, Body};
 use leap_frog::State;
 
 /// A velocity in a file has so many bits beside its sign.

@@ -8,7 +8,7 @@ ghost use Rattle.state_file.specs.Texts.{IsWritable, bits_of, row_text, rows_tex
 ghost use Rattle.state_file.specs.Texts.{state_text};
 
 use hot_io::{BLOCK, Block, Failed, Sink};
-use hot_model::Body;
+use hot_units::Body;
 use leap_frog::State;
 
 /// The bytes of a row.

@@ -8,16 +8,13 @@ use Rattle.std.proofs.lemmas.List.{get_or_append_left, get_or_push, append-nil}
 use Rattle.std.proofs.lemmas.List.Elements.{All-push, filter_more}
 use Rattle.std.proofs.lemmas.List.Folds.{list_all-append}
 use Rattle.std.proofs.lemmas.List.Kept.{IsSortedBy-push}
-use Rattle.hot_model.specs.Limits.{max_bodies}
-use Rattle.hot_model.specs.Values.{BodyValue}
-use Rattle.hot_model.specs.Keys.{key_of_body}
-use Rattle.hot_model.specs.Order.{before}
-use Rattle.hot_model.specs.Forces.{RowsCount}
-use Rattle.hot_model.specs.World.{World, IsBody, rank_of}
-use Rattle.hot_model.specs.Branches.{first_rank, one_rank}
-use Rattle.hot_model.specs.Trees.{child}
-use Rattle.hot_model.specs.Values.{CellValue}
-use Rattle.hot_model.specs.World.{record_in}
+use Rattle.hot_units.specs.Limits.{max_bodies}
+use Rattle.hot_units.specs.Values.{BodyValue, CellValue}
+use Rattle.hot_units.specs.Keys.{key_of_body, child}
+use Rattle.hot_units.specs.Order.{before}
+use Rattle.hot_units.specs.Bodies.{RowsCount, IsBody}
+use Rattle.rank_model.specs.World.{World, rank_of, record_in}
+use Rattle.rank_model.specs.Branches.{first_rank, one_rank}
 use Rattle.defer_walk.proofs.Descents.{records_to, records_more}
 use Rattle.defer_walk.specs.Listing.{IsListing}
 

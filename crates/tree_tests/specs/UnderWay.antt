@@ -1,6 +1,6 @@
 -- Walks that tests make, over a list that is cut by keys.
 use Rattle.std.specs.Prelude.{ℕ, ◌≡◌, Bool, true, List, Contains, None}
-use Rattle.hot_model.specs.Values.{BodyValue, CellValue}
+use Rattle.hot_units.specs.Values.{BodyValue, CellValue}
 use Rattle.hot_model.specs.Trees.{Term}
 use Rattle.defer_walk.specs.declared.asks.Slot.{Slot}
 use Rattle.defer_walk.specs.Listing.{ListingValue, world_of}

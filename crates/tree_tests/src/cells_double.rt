@@ -1,20 +1,21 @@
 //! A double of what a rank has of the tree: the whole list of bodies.
 ghost use Rattle.std.specs.Prelude.{◌≡◌, ◌<◌, ◌&&◌, if◌then◌else◌, IfOk, length, filter, eqb};
-ghost use Rattle.hot_model.specs.Keys as keys;
-ghost use Rattle.hot_model.specs.Trees as trees;
-ghost use Rattle.hot_model.specs.Keys.{IsCell};
-ghost use Rattle.hot_model.specs.Limits.{max_level};
-ghost use Rattle.hot_model.specs.World.{IsGood, record_in, piece as piece_of};
-ghost use Rattle.hot_model.specs.Needs.{part_by};
-ghost use Rattle.hot_model.specs.Answers.{true_answer, child_records};
+ghost use Rattle.hot_units.specs.Limits.{max_level};
+ghost use Rattle.hot_units.specs.Keys as keys;
+ghost use Rattle.hot_units.specs.Keys.{IsCell};
+ghost use Rattle.rank_model.specs.World.{IsGood, record_in, piece as piece_of};
+ghost use Rattle.rank_model.specs.Needs.{part_by};
+ghost use Rattle.rank_model.specs.Answers.{true_answer, child_records};
 ghost use Rattle.defer_walk.specs.Listing.{world_of, rank_by};
 
 use crate::samples::bodies_of;
 use defer_walk::Cells;
-use hot_model::limits::MAX_LEVEL;
-use hot_model::{Answer, Body, BodyList, CellRec, Part, RecList, covers, level};
+use hot_model::{Answer, CellRec, RecList};
+use hot_units::limits::MAX_LEVEL;
+use hot_units::{Body, BodyList, covers, level};
 use moments::of_inside;
 use morton_key::child;
+use rank_model::Part;
 use std::alloc::{AllocError, Global};
 use std::marker::Model;
 use std::process::Abort;
@@ -126,7 +127,7 @@ impl CellsDouble {
         requires cell { IsCell key }
         requires above { keys.level key < max_level }
         requires digit { digit < 8 }
-        ensures value { result ≡ record_in (world_of self.now) (trees.child key digit) }
+        ensures value { result ≡ record_in (world_of self.now) (keys.child key digit) }
     {
         match child(key, digit) {
             Some(below) => self.record(below),

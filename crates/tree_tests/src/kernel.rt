@@ -2,7 +2,8 @@
 ghost use Rattle.std.specs.Prelude.{◌<◌, IfSome};
 
 use fixed_kernel::{Eps, ForceVisit, Ratio, accepts, centre, pull, root};
-use hot_model::{Acc3, Body, CellRec, Seen, Visit, body_of, covers};
+use hot_model::{CellRec, Seen, Visit};
+use hot_units::{Acc3, Body, body_of, covers};
 use moments::of_body;
 use std::process::Abort;
 

@@ -1,5 +1,6 @@
-//! Tests of hot_model.
-use hot_model::{Answer, AnswerList, Answered, Body, BodyList, KeyList, body_of};
+//! Tests of hot_units and hot_model.
+use hot_model::{Answer, AnswerList, Answered};
+use hot_units::{Body, BodyList, KeyList, body_of};
 use std::process::Abort;
 
 #[test]

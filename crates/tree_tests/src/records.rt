@@ -1,5 +1,6 @@
 //! Tests of moments.
-use hot_model::{CellRec, body_of, covers};
+use hot_model::CellRec;
+use hot_units::{body_of, covers};
 use moments::{add, empty, of_body};
 
 /// A record as count, mass and the three sums.

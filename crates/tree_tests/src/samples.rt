@@ -1,14 +1,13 @@
 //! Lists of bodies for tests.
 ghost use Rattle.std.specs.Prelude.{◌≡◌, ◌<◌, ◌≤◌, ◌-◌, length, get_or};
-ghost use Rattle.hot_model.specs.Limits.{max_all_mass};
-ghost use Rattle.hot_model.specs.Values.{BodyValue};
-ghost use Rattle.hot_model.specs.Keys.{key_of_body};
-ghost use Rattle.hot_model.specs.Trees.{mass_of};
-ghost use Rattle.hot_model.specs.Forces.{RowsDiffer};
+ghost use Rattle.hot_units.specs.Limits.{max_all_mass};
+ghost use Rattle.hot_units.specs.Values.{BodyValue};
+ghost use Rattle.hot_units.specs.Keys.{key_of_body};
+ghost use Rattle.hot_units.specs.Bodies.{mass_of, RowsDiffer};
 ghost use Rattle.defer_walk.specs.Listing.{IsListing};
 
-use hot_model::limits::MAX_BODIES;
-use hot_model::{Body, body_of};
+use hot_units::limits::MAX_BODIES;
+use hot_units::{Body, body_of};
 use std::alloc::Global;
 use std::process::Abort;
 

@@ -1,13 +1,14 @@
 //! Branch lists for tests, of cells and bodies by hand.
 ghost use Rattle.std.specs.Prelude.{◌≡◌, ◌<◌, ◌≤◌, ℕ, true, length, get_or, All, IsTrue};
-ghost use Rattle.hot_model.specs.Keys as keys;
+ghost use Rattle.hot_units.specs.Keys as keys;
 ghost use Rattle.branch_merge.specs.declared.listed.Listed.{Listed};
 ghost use Rattle.branch_merge.specs.Listing.{AreApart};
 ghost use Rattle.branch_merge.specs.Merged.{AreLight};
 
 use branch_merge::{Listed, Top, gathered};
-use hot_model::limits::{MAX_ALL_MASS, MAX_RANKS};
-use hot_model::{Body, CellRec, RecList, body_of, covers};
+use hot_model::{CellRec, RecList};
+use hot_units::limits::{MAX_ALL_MASS, MAX_RANKS};
+use hot_units::{Body, body_of, covers};
 use moments::{add, empty, of_body};
 use morton_key::is_cell;
 use std::alloc::{AllocError, Global};

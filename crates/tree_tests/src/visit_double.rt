@@ -1,6 +1,7 @@
 //! A double of a visit, which runs out of memory.
 
-use hot_model::{Body, CellRec, Visit};
+use hot_model::{CellRec, Visit};
+use hot_units::Body;
 use std::alloc::{AllocError, Global};
 
 /// A visit like another one, but that finds no memory for bodies of one mass.

@@ -5,7 +5,8 @@ use crate::cells_double::CellsDouble;
 use crate::visit_double::HungryVisit;
 use defer_walk::{Progress, Walk, WalkResult};
 use fixed_kernel::{Eps, ForceVisit, Ratio};
-use hot_model::{Acc3, Answered, Seen, Visit};
+use hot_model::{Answered, Seen, Visit};
+use hot_units::Acc3;
 use std::alloc::{AllocError, Global};
 use std::process::Abort;
 

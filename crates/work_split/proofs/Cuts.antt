@@ -4,14 +4,14 @@ use Rattle.std.specs.Prelude.{count_by}
 use Rattle.std.proofs.lemmas.Bool.{cases_lt, le-ltb, lt-ltb, eq-eqb, ne_eqb}
 use Rattle.std.proofs.lemmas.List.Elements.{All-weaker}
 use Rattle.std.proofs.lemmas.List.Sums.{sum_by-cons}
-use Rattle.hot_model.specs.Limits.{max_bodies}
-use Rattle.hot_model.specs.Values.{BodyValue}
-use Rattle.hot_model.specs.Keys.{key_of_body}
-use Rattle.hot_model.specs.Split.{weight_in, split_rank}
-use Rattle.hot_model.specs.World.{rank_of}
-use Rattle.hot_model.specs.Order.{IsInOrder}
-use Rattle.hot_model.proofs.Ranges.{Rising, NoneBelow}
-use Rattle.hot_model.proofs.Worlds.{rising_in_order, split_rises, split_below, split_good}
+use Rattle.hot_units.specs.Limits.{max_bodies}
+use Rattle.hot_units.specs.Values.{BodyValue}
+use Rattle.hot_units.specs.Keys.{key_of_body}
+use Rattle.hot_units.specs.Order.{IsInOrder}
+use Rattle.hot_model.proofs.Ranges.{Rising, NoneBelow, rising_in_order}
+use Rattle.rank_model.specs.World.{rank_of}
+use Rattle.rank_model.specs.Split.{weight_in, split_rank}
+use Rattle.rank_model.proofs.Worlds.{split_rises, split_below, split_good}
 use Rattle.work_split.specs.Splits.{world_of, world_by}
 use Rattle.work_split.specs.Laws.{PiecesJoin, PiecesMakeAWorld}
 

@@ -1,12 +1,11 @@
 -- The greatest and the least key of a list in key order.
 use Rattle.std.proofs.Common.{ℕ, zero, suc, ◌≡◌, ◌+◌, ◌<◌, ◌≤◌, true, false, leb, List, [], ◌∷◌, length, map, get_or, sym, refl, ap, ◌∙◌, inl, inr, arith, Option, Some, None}
 use Rattle.std.proofs.lemmas.Bool.{cases_lt, le-leb, lt-leb}
-use Rattle.hot_model.specs.Values.{BodyValue}
-use Rattle.hot_model.specs.Keys.{key_of_body}
-use Rattle.hot_model.specs.Order.{IsInOrder}
-use Rattle.hot_model.specs.World.{greatest, least, more_of, less_of}
-use Rattle.hot_model.proofs.Ranges.{Rising, NoneBelow}
-use Rattle.hot_model.proofs.Worlds.{rising_in_order}
+use Rattle.hot_units.specs.Values.{BodyValue}
+use Rattle.hot_units.specs.Numbers.{greatest, least, more_of, less_of}
+use Rattle.hot_units.specs.Keys.{key_of_body}
+use Rattle.hot_units.specs.Order.{IsInOrder}
+use Rattle.hot_model.proofs.Ranges.{Rising, NoneBelow, rising_in_order}
 
 member_from : (j m : ℕ) (xs : List BodyValue) (d : BodyValue) → NoneBelow j xs → m < length xs → j ≤ key_of_body (get_or xs m d)
 member_from j m [] d n h = absurd (omega (arith, h))

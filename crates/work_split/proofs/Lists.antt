@@ -4,11 +4,11 @@ use Rattle.std.specs.Prelude.{slice_range}
 use Rattle.std.proofs.lemmas.Bool.{cases_lt}
 use Rattle.std.proofs.lemmas.List.{map-append, length-map, ext_get_or, get_or-map, get_or_append_left, get_or_at, drop-take}
 use Rattle.std.proofs.lemmas.List.Sums.{count_by-le-length}
-use Rattle.hot_model.specs.Values.{BodyValue}
-use Rattle.hot_model.specs.Keys.{key_of_body}
-use Rattle.hot_model.specs.World.{rank_of, piece, left_of, right_of, greatest, least}
-use Rattle.hot_model.specs.Branches.{numbers_below}
-use Rattle.body_set.specs.Sets.{OrderedValue, IsOrderedSet}
+use Rattle.hot_units.specs.Values.{BodyValue}
+use Rattle.hot_units.specs.Numbers.{greatest, least, numbers_below}
+use Rattle.hot_units.specs.Keys.{key_of_body}
+use Rattle.rank_model.specs.World.{rank_of, piece, left_of, right_of}
+use Rattle.key_order.specs.Ordered.{OrderedValue, IsOrderedSet}
 use Rattle.work_split.specs.Values.{PiecesValue}
 use Rattle.work_split.specs.Splits.{world_of, start, weight_of, pieces_of, IsRun, AreCounts, AreWeights}
 use Rattle.work_split.proofs.Cuts.{lower-next, front-lower, middle-lower, back-lower, ranks_climb}

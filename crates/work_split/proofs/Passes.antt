@@ -5,13 +5,13 @@ use Rattle.std.proofs.lemmas.Bool.{cases_eq, le-ltb, lt-ltb, eq-eqb, ne_eqb}
 use Rattle.std.proofs.lemmas.List.{take_more, length-set, length-replicate}
 use Rattle.std.proofs.lemmas.List.Elements.{All-head, All-tail, All-more, All-weaker, filter-append}
 use Rattle.std.proofs.lemmas.List.Sums.{sum_by-cons, sum_by_push, sum_by_more, length-filter, count_by-le-length}
-use Rattle.hot_model.specs.Values.{BodyValue}
-use Rattle.hot_model.specs.Keys.{key_of_body}
-use Rattle.hot_model.specs.Order.{IsInOrder}
-use Rattle.hot_model.specs.Split.{weight_in, counted, weight_below, split_rank}
-use Rattle.hot_model.specs.World.{rank_of}
-use Rattle.hot_model.proofs.Ranges.{Rising, NoneBelow}
-use Rattle.hot_model.proofs.Worlds.{rising_in_order, sum_filter_le}
+use Rattle.hot_units.specs.Values.{BodyValue}
+use Rattle.hot_units.specs.Keys.{key_of_body}
+use Rattle.hot_units.specs.Order.{IsInOrder}
+use Rattle.hot_units.proofs.Bodies.{sum_filter_le}
+use Rattle.hot_model.proofs.Ranges.{Rising, NoneBelow, rising_in_order}
+use Rattle.rank_model.specs.World.{rank_of}
+use Rattle.rank_model.specs.Split.{weight_in, counted, weight_below, split_rank}
 use Rattle.work_split.specs.Splits.{world_by, AreCounts, AreWeights}
 
 -- the sum of the weights that count

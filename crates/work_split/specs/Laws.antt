@@ -1,8 +1,8 @@
 -- The laws of the split.
 use Rattle.std.specs.Prelude.{ℕ, ◌≡◌, ◌≤◌, length}
-use Rattle.hot_model.specs.World.{IsGood}
-use Rattle.hot_model.specs.Split.{weight_in, split_world}
-use Rattle.body_set.specs.Sets.{OrderedValue, IsOrderedSet}
+use Rattle.rank_model.specs.World.{IsGood}
+use Rattle.rank_model.specs.Split.{weight_in, split_world}
+use Rattle.key_order.specs.Ordered.{OrderedValue, IsOrderedSet}
 use Rattle.work_split.specs.Splits.{world_of, start}
 
 -- the first piece starts at 0, and behind the last is the end of the list

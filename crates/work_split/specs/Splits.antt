@@ -1,10 +1,10 @@
 -- The pieces of a set that is split over ranks.
 use Rattle.std.specs.Prelude.{ℕ, suc, ◌≡◌, ◌≤◌, eqb, ltb, List, length, filter, map, sum_by, count_by, slice_index, slice_range}
-use Rattle.hot_model.specs.Values.{BodyValue}
-use Rattle.hot_model.specs.World.{World, rank_of, piece}
-use Rattle.hot_model.specs.Split.{weight_in, counted, split_world}
-use Rattle.hot_model.specs.Branches.{numbers_below}
-use Rattle.body_set.specs.Sets.{OrderedValue}
+use Rattle.hot_units.specs.Values.{BodyValue}
+use Rattle.hot_units.specs.Numbers.{numbers_below}
+use Rattle.rank_model.specs.World.{World, rank_of, piece}
+use Rattle.rank_model.specs.Split.{weight_in, counted, split_world}
+use Rattle.key_order.specs.Ordered.{OrderedValue}
 use Rattle.work_split.specs.Values.{PiecesValue}
 
 -- the world of bodies in order that are split by weights; its leaf limit has no part in the split

@@ -1,14 +1,15 @@
 ghost use Rattle.std.specs.Prelude.{◌≡◌, ◌<◌, ◌≤◌, ◌+◌, ℕ, length, slice_index, map, IfOk};
-ghost use Rattle.hot_model.specs.Keys.{key_of_body};
-ghost use Rattle.hot_model.specs.Limits.{max_bodies, max_ranks};
-ghost use Rattle.hot_model.specs.Order.{IsInOrder};
-ghost use Rattle.hot_model.specs.World as world;
-ghost use Rattle.body_set.specs.Sets.{OrderedValue, IsOrderedSet};
+ghost use Rattle.hot_units.specs.Limits.{max_bodies, max_ranks};
+ghost use Rattle.hot_units.specs.Numbers as numbers;
+ghost use Rattle.hot_units.specs.Keys.{key_of_body};
+ghost use Rattle.hot_units.specs.Order.{IsInOrder};
+ghost use Rattle.rank_model.specs.World as world;
+ghost use Rattle.key_order.specs.Ordered.{OrderedValue, IsOrderedSet};
 ghost use Rattle.work_split.specs.Splits as splits;
 
 use crate::shares::tally;
-use body_set::Ordered;
-use hot_model::Body;
+use hot_units::Body;
+use key_order::Ordered;
 use std::alloc::{AllocError, Global};
 use std::marker::Model;
 
@@ -60,7 +61,7 @@ pub fn split(alloc: Global, set: &Ordered, ranks: u32) -> Result<Pieces, AllocEr
 /// The greatest key of a list in key order, if there is one.
 fn greatest_key(bodies: &[Body]) -> Option<u64>
     requires order { IsInOrder bodies.now }
-    ensures value { result ≡ world.greatest (map key_of_body bodies.now) }
+    ensures value { result ≡ numbers.greatest (map key_of_body bodies.now) }
 {
     if bodies.is_empty() {
         return None;
@@ -72,7 +73,7 @@ fn greatest_key(bodies: &[Body]) -> Option<u64>
 /// The least key of a list in key order, if there is one.
 fn least_key(bodies: &[Body]) -> Option<u64>
     requires order { IsInOrder bodies.now }
-    ensures value { result ≡ world.least (map key_of_body bodies.now) }
+    ensures value { result ≡ numbers.least (map key_of_body bodies.now) }
 {
     if bodies.is_empty() {
         return None;

@@ -1,11 +1,11 @@
 ghost use Rattle.std.specs.Prelude.{◌≡◌, ◌<◌, ◌≤◌, ◌-◌, ◌*◌, ◌/◌, ℕ, min, length, slice_index};
 ghost use Rattle.std.specs.Prelude.{IfOk, All};
-ghost use Rattle.hot_model.specs.Limits.{max_bodies, max_ranks, max_work};
-ghost use Rattle.hot_model.specs.Order.{IsInOrder};
+ghost use Rattle.hot_units.specs.Limits.{max_bodies, max_ranks, max_work};
+ghost use Rattle.hot_units.specs.Order.{IsInOrder};
 ghost use Rattle.work_split.specs.Splits as splits;
 
 use crate::weights::{counted, total};
-use hot_model::Body;
+use hot_units::Body;
 use std::alloc::{AllocError, Global};
 
 /// For each rank, how many bodies it has and their weight.

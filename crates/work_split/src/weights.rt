@@ -1,8 +1,8 @@
 ghost use Rattle.std.specs.Prelude.{◌≡◌, ◌<◌, ◌≤◌, ◌*◌, eqb, if◌then◌else◌, length, sum_by, All};
-ghost use Rattle.hot_model.specs.Limits.{max_bodies, max_work};
-ghost use Rattle.hot_model.specs.Split.{weight_in};
+ghost use Rattle.hot_units.specs.Limits.{max_bodies, max_work};
+ghost use Rattle.rank_model.specs.Split.{weight_in};
 
-use hot_model::Body;
+use hot_units::Body;
 
 /// The work weight of a body, by its row.
 fn weight_of(weights: &[u32], b: &Body) -> u64

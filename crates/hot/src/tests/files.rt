@@ -7,10 +7,10 @@ use super::{
 };
 use crate::Status;
 use hot_io::MemSource;
-use round_runner::{MemWire, OpenGate};
 use std::alloc::Global;
 use std::process::Abort;
 use std::thread::Threads;
+use wire::{MemWire, OpenGate};
 
 #[test]
 fn forces_of_files(rt: HostRuntime) {

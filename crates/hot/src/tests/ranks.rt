@@ -4,9 +4,9 @@ use super::{
     check_calls, check_files, plain_file,
 };
 use crate::Status;
-use round_runner::MeetGate;
 use std::alloc::Global;
 use std::process::Abort;
+use wire::MeetGate;
 
 /// Two bodies on two ranks, each of which opens every cell.
 pub(super) const TWO_RANKS: &str = "forces --eps 1 --theta 0/1 --ranks 2";

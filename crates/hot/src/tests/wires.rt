@@ -2,10 +2,10 @@
 use super::ranks::{ROW, ROW_PULLS, SINGLE_REPORT, TWO_RANKS};
 use super::{AMPLE, MASSES, PAIR, PLACES, PULLS, call, call_over, check, plain_file};
 use crate::Status;
-use round_runner::{Entry, Log, MemWire, OpenGate, StarveWire};
 use std::alloc::Global;
 use std::process::Abort;
 use std::thread::Threads;
+use wire::{Entry, Log, MemWire, OpenGate, StarveWire};
 
 /// The bytes of all letters that were posted.
 fn bytes_posted(log: &Log) -> usize {

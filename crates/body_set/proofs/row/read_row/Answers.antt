@@ -3,7 +3,7 @@ use Rattle.std.specs.Int.{w128}
 use Rattle.std.specs.Prelude.{nat_lt}
 use Rattle.std.proofs.lemmas.Bool.{lt-ltb}
 use Rattle.std.proofs.lemmas.Int.{to_z-of_z}
-use Rattle.hot_model.specs.Limits.{max_bodies}
+use Rattle.hot_units.specs.Limits.{max_bodies}
 use Rattle.body_set.proofs.FirstFault.{first_by_tests}
 use Rattle.body_set.proofs.row.read_row.Goals as goal
 

@@ -1,4 +1,4 @@
-use Rattle.hot_model.specs.Keys.{level}
+use Rattle.hot_units.specs.Keys.{level}
 use Rattle.branch_merge.proofs.Upward.{Climbs}
 use Rattle.branch_merge.proofs.above.add_above.Given as goal
 

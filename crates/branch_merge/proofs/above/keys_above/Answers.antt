@@ -2,8 +2,8 @@ use Rattle.std.proofs.Common.{ℕ, ◌≡◌, eqb, List, take, ap, subst, arith}
 use Rattle.std.proofs.lemmas.List.{take_all}
 use Rattle.std.proofs.lemmas.List.Elements.{All-more}
 use Rattle.std.proofs.lemmas.List.Filters.{dedup_is}
-use Rattle.hot_model.specs.Values.{CellValue}
-use Rattle.hot_model.specs.Keys.{IsCell}
+use Rattle.hot_units.specs.Values.{CellValue}
+use Rattle.hot_units.specs.Keys.{IsCell}
 use Rattle.branch_merge.specs.declared.listed.Listed.{Listed}
 use Rattle.branch_merge.specs.Merged.{Gains, AreCells}
 use Rattle.branch_merge.proofs.Upward.{HasTops, tops_more, tops_sorted}

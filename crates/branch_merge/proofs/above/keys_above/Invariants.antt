@@ -1,5 +1,5 @@
 use Rattle.std.proofs.Common.{take}
-use Rattle.hot_model.specs.Keys.{IsCell}
+use Rattle.hot_units.specs.Keys.{IsCell}
 use Rattle.branch_merge.specs.Merged.{AreCells, HasAbove}
 use Rattle.branch_merge.proofs.Upward.{HasTops}
 use Rattle.branch_merge.proofs.above.keys_above.Given as goal

@@ -1,5 +1,5 @@
 use Rattle.std.proofs.Common.{◌≡◌, ◌+◌, ◌-◌, ◌/◌, ◌<◌, length, sym, ap, ◌∙◌, arith}
-use Rattle.hot_model.specs.Values.{CellValue}
+use Rattle.hot_units.specs.Values.{CellValue}
 use Rattle.branch_merge.specs.Merged.{key_of_top}
 use Rattle.branch_merge.proofs.Runs.{less_upto, more_from, none_here}
 use Rattle.branch_merge.proofs.find.find.Goals as goal

@@ -1,4 +1,4 @@
-use Rattle.hot_model.proofs.Owners.{branch_of, one_branch}
+use Rattle.rank_model.proofs.Owners.{branch_of, one_branch}
 use Rattle.branch_merge.proofs.laws.bodies_have_one_branch.Goals as goal
 
 pub returns : goal.returns

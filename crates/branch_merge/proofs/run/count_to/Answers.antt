@@ -1,5 +1,5 @@
 use Rattle.std.proofs.Common.{◌≡◌, ◌+◌, ◌-◌, ◌/◌, ◌<◌, length, sym, ap, ◌∙◌, arith}
-use Rattle.hot_model.specs.Values.{CellValue}
+use Rattle.hot_units.specs.Values.{CellValue}
 use Rattle.morton_key.specs.Ranges.{first_key}
 use Rattle.branch_merge.specs.Merged.{first_of}
 use Rattle.branch_merge.proofs.Runs.{under_upto, over_from}

@@ -1,5 +1,5 @@
 use Rattle.std.proofs.Common.{subst, arith, ap, ◌∙◌}
-use Rattle.hot_model.specs.Needs.{IsAbove}
+use Rattle.rank_model.specs.Needs.{IsAbove}
 use Rattle.morton_key.proofs.Numbers.{child_fits, child_is_cell}
 use Rattle.branch_merge.specs.declared.listed.Listed.{Listed}
 use Rattle.branch_merge.specs.Tops.{has_listed}

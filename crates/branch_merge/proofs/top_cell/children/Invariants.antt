@@ -1,5 +1,5 @@
 use Rattle.std.proofs.Common.{◌≡◌, take, map, filter}
-use Rattle.hot_model.specs.Trees.{child, digits}
+use Rattle.hot_units.specs.Keys.{child, digits}
 use Rattle.branch_merge.specs.Tops.{has_listed}
 use Rattle.branch_merge.proofs.top_cell.children.Given as goal
 

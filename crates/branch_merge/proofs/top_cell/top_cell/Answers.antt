@@ -1,5 +1,5 @@
 use Rattle.std.proofs.Common.{List, sym, ap, ◌∙◌, subst}
-use Rattle.hot_model.specs.Keys.{covers}
+use Rattle.hot_units.specs.Keys.{covers}
 use Rattle.morton_key.proofs.Numbers.{child_is_cell}
 use Rattle.branch_merge.specs.declared.listed.Listed.{Listed}
 use Rattle.branch_merge.specs.Tops.{children_of}

@@ -1,10 +1,9 @@
 use Rattle.std.proofs.Common.{rules, ◌≡◌, ℕ, ◌+◌, ◌-◌, ◌<◌, ◌≤◌, ◌++◌, List, [], length, drop, take, sym, refl, ap, subst, ◌∙◌, arith, Some, None, is_some}
 use Rattle.std.proofs.lemmas.List.{append-nil, drop_all}
-use Rattle.hot_model.specs.Keys.{IsCell}
-use Rattle.hot_model.specs.Trees.{child}
-use Rattle.hot_model.specs.World.{record_in}
-use Rattle.hot_model.specs.Answers.{child_records}
-use Rattle.hot_model.specs.Pairs.{PairValue, pair_with}
+use Rattle.hot_units.specs.Keys.{IsCell, child}
+use Rattle.rank_model.specs.World.{record_in}
+use Rattle.rank_model.specs.Answers.{child_records}
+use Rattle.rank_model.specs.Pairs.{PairValue, pair_with}
 use Rattle.defer_walk.specs.Asked.{Extends}
 use Rattle.defer_walk.specs.Settling.{IsParted}
 use Rattle.defer_walk.specs.Grouping.{group, by_children, AreOpened}

@@ -1,7 +1,7 @@
 use Rattle.std.proofs.Common.{ℕ, Bool, List, drop, ◌++◌}
-use Rattle.hot_model.specs.Values.{CellValue}
-use Rattle.hot_model.specs.World.{World}
-use Rattle.hot_model.specs.Pairs.{PairValue}
+use Rattle.hot_units.specs.Values.{CellValue}
+use Rattle.rank_model.specs.World.{World}
+use Rattle.rank_model.specs.Pairs.{PairValue}
 use Rattle.defer_walk.specs.declared.asks.Slot.{Slot}
 use Rattle.defer_walk.specs.Tallies.{TallyValue, noted}
 use Rattle.defer_walk.specs.Grouping.{group, opened_keys}

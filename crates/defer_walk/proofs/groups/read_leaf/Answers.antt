@@ -1,6 +1,6 @@
 use Rattle.std.proofs.Common.{ℕ, ◌++◌, List, ◌∷◌, [], take, add-one, sym, ◌∙◌, ap, arith}
-use Rattle.hot_model.specs.Values.{BodyValue}
-use Rattle.hot_model.specs.World.{bodies_in}
+use Rattle.hot_units.specs.Values.{BodyValue}
+use Rattle.rank_model.specs.World.{bodies_in}
 use Rattle.defer_walk.proofs.Slots.{take_get}
 use Rattle.defer_walk.proofs.Settles.{get_some}
 use Rattle.std.proofs.lemmas.List.{take_all}

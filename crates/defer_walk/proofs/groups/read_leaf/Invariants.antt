@@ -1,7 +1,7 @@
 use Rattle.std.proofs.Common.{◌≡◌, ℕ, take}
-use Rattle.hot_model.specs.World.{World, bodies_in}
-use Rattle.hot_model.specs.Needs.{part_of}
-use Rattle.hot_model.specs.declared.part.Part.TheVariants.{Leaf}
+use Rattle.rank_model.specs.World.{World, bodies_in}
+use Rattle.rank_model.specs.Needs.{part_of}
+use Rattle.rank_model.specs.declared.part.Part.TheVariants.{Leaf}
 use Rattle.defer_walk.proofs.groups.read_leaf.Given as goal
 
 abbrev pub invariant-loop-i : goal.invariant-loop-i

@@ -3,8 +3,8 @@ use Rattle.std.specs.Prelude.{slice_get}
 use Rattle.std.proofs.lemmas.Option.{slice_get-get_or}
 use Rattle.std.proofs.lemmas.List.{append-nil, drop_all, length-append}
 use Rattle.std.proofs.lemmas.List.Elements.{All-nil, All-append}
-use Rattle.hot_model.specs.Values.{BodyValue}
-use Rattle.hot_model.specs.Pairs.{pair_with}
+use Rattle.hot_units.specs.Values.{BodyValue}
+use Rattle.rank_model.specs.Pairs.{pair_with}
 use Rattle.defer_walk.specs.Settling.{IsOpened}
 use Rattle.defer_walk.specs.Grouping.{group, AreOpened}
 use Rattle.defer_walk.specs.Standing.{VisitOf, meaning}

@@ -1,6 +1,6 @@
 use Rattle.std.proofs.Common.{ℕ, ◌≡◌, ◌≤◌, List, drop, ◌++◌, false}
-use Rattle.hot_model.specs.World.{World}
-use Rattle.hot_model.specs.Pairs.{PairValue}
+use Rattle.rank_model.specs.World.{World}
+use Rattle.rank_model.specs.Pairs.{PairValue}
 use Rattle.defer_walk.specs.declared.asks.Slot.{Slot}
 use Rattle.defer_walk.specs.Tallies.{TallyValue}
 use Rattle.defer_walk.specs.Grouping.{group, AreOpened}

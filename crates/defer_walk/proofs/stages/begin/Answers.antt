@@ -1,7 +1,7 @@
 use Rattle.std.proofs.Common.{◌≡◌, ℕ, ◌≤◌, List, length, sym, subst, arith, false}
-use Rattle.hot_model.specs.Limits.{max_bodies}
-use Rattle.hot_model.specs.Values.{BodyValue}
-use Rattle.hot_model.specs.Pairs.{PairValue}
+use Rattle.hot_units.specs.Limits.{max_bodies}
+use Rattle.hot_units.specs.Values.{BodyValue}
+use Rattle.rank_model.specs.Pairs.{PairValue}
 use Rattle.defer_walk.specs.Grouping.{group, places_to}
 use Rattle.defer_walk.specs.Standing.{VisitOf, meaning, pairs_in}
 use Rattle.defer_walk.specs.Turning.{Runs}

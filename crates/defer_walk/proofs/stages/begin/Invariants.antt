@@ -1,5 +1,5 @@
 use Rattle.std.proofs.Common.{ℕ, ◌≡◌, false, Some, length}
-use Rattle.hot_model.specs.World.{World, IsGood, record_in, piece}
+use Rattle.rank_model.specs.World.{World, IsGood, record_in, piece}
 use Rattle.defer_walk.specs.Asked.{Extends}
 use Rattle.defer_walk.specs.Grouping.{group, places_to}
 use Rattle.defer_walk.specs.Standing.{meaning, pairs_in, roots}

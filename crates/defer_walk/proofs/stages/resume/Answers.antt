@@ -1,7 +1,7 @@
 use Rattle.std.proofs.Common.{rules, ◌≡◌, ℕ, ◌<◌, ◌++◌, List, [], ◌∷◌, length, sym, ap, subst, ◌∙◌, false, Some, None}
 use Rattle.std.specs.Option.{option_copied}
 use Rattle.std.proofs.lemmas.List.{append-nil}
-use Rattle.hot_model.specs.Pairs.{PairValue}
+use Rattle.rank_model.specs.Pairs.{PairValue}
 use Rattle.defer_walk.specs.declared.held.Held.{Held}
 use Rattle.defer_walk.specs.Asked.{stored_at}
 use Rattle.defer_walk.specs.Grouping.{by_children, listed_as, listed_of, all_listed}

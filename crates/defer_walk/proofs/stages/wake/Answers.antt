@@ -1,9 +1,9 @@
 use Rattle.std.proofs.Common.{◌≡◌, ℕ, ◌+◌, ◌*◌, ◌^◌, ◌<◌, ◌++◌, List, length, sym, ap, subst, ◌∙◌, false}
 use Rattle.std.specs.Prelude.{All}
 use Rattle.std.proofs.lemmas.List.Elements.{All-nil}
-use Rattle.hot_model.specs.Values.{CellValue}
+use Rattle.hot_units.specs.Values.{CellValue}
 use Rattle.hot_model.specs.Trees.{cell_record}
-use Rattle.hot_model.specs.Pairs.{pair_with}
+use Rattle.rank_model.specs.Pairs.{pair_with}
 use Rattle.defer_walk.specs.Tallies.{IsSameTally, noted}
 use Rattle.defer_walk.specs.Grouping.{opened_keys, by_children}
 use Rattle.defer_walk.specs.Standing.{VisitOf, meaning}

@@ -1,6 +1,6 @@
 use Rattle.std.proofs.Common.{◌≡◌, ◌≤◌, ◌*◌, length}
-use Rattle.hot_model.specs.Trees.{mass_of}
-use Rattle.hot_model.specs.Limits.{max_body_mass}
+use Rattle.hot_units.specs.Limits.{max_body_mass}
+use Rattle.hot_units.specs.Bodies.{mass_of}
 use Rattle.leap_frog.specs.Leap.{bodies_of}
 use Rattle.file_tests.proofs.steps.state_of.Given as goal
 

@@ -1,7 +1,7 @@
 use Rattle.std.proofs.Common.{◌≤◌, sym, subst, arith, List}
-use Rattle.hot_model.specs.Limits.{max_all_mass}
-use Rattle.hot_model.specs.Values.{BodyValue}
-use Rattle.hot_model.specs.Trees.{mass_of}
+use Rattle.hot_units.specs.Limits.{max_all_mass}
+use Rattle.hot_units.specs.Values.{BodyValue}
+use Rattle.hot_units.specs.Bodies.{mass_of}
 use Rattle.work_split.proofs.Cuts.{pieces_make_a_world}
 use Rattle.file_tests.proofs.worlds.plain_forces.Goals as goal
 

@@ -1,11 +1,11 @@
 use Rattle.std.proofs.Common.{◌∙◌, ap, sym, rules}
 use mir.Syntax.{w128}
 use mir.Val.{SFits}
-use Rattle.hot_model.specs.Kernel.{centre, coordinates}
-use Rattle.hot_model.specs.Values.{CellValue, cell_of}
+use Rattle.hot_units.specs.Values.{coordinates, CellValue, cell_of}
+use Rattle.hot_units.proofs.Signed.{stored}
+use Rattle.hot_model.specs.Kernel.{centre}
 use Rattle.hot_model.specs.Second.{spread}
 use Rattle.hot_model.proofs.Corners.{sxx-in-cube, syy-in-cube, szz-in-cube, sxy-in-cube, sxz-in-cube, syz-in-cube}
-use Rattle.hot_model.proofs.Signed.{stored}
 use Rattle.fixed_kernel.proofs.Signs.{spread-is, centre-at-x, centre-at-y, centre-at-z, some-mass}
 use Rattle.fixed_kernel.proofs.products.spread.Goals as goal
 

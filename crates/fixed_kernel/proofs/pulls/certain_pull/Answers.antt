@@ -1,8 +1,8 @@
 use Rattle.std.proofs.Common.{ℕ, ℤ, ◌≡◌, ◌*◌, ◌^◌, ◌<◌, slice_index, rules, arith}
 use mir.Syntax.{w128}
 use mir.Val.{SFits, of_z, to_z}
+use Rattle.hot_units.proofs.Signed.{stored}
 use Rattle.hot_model.specs.Kernel.{root, apart, toward, pull_along}
-use Rattle.hot_model.proofs.Signed.{stored}
 use Rattle.fixed_kernel.proofs.Fast.{three}
 use Rattle.fixed_kernel.proofs.Certain.{same-quotients, component-is, divisor-above}
 use Rattle.fixed_kernel.proofs.pulls.certain_pull.Goals as goal

@@ -1,8 +1,8 @@
 use Rattle.std.proofs.Common.{ℕ, ℤ, ◌≡◌, ◌*◌, ◌/◌, ◌^◌, rules}
 use mir.Syntax.{w128}
 use mir.Val.{SFits, of_z, to_z}
+use Rattle.hot_units.proofs.Signed.{stored}
 use Rattle.hot_model.specs.Kernel.{apart, toward, pull_along}
-use Rattle.hot_model.proofs.Signed.{stored}
 use Rattle.fixed_kernel.proofs.Fast.{three, along-is}
 use Rattle.fixed_kernel.proofs.pulls.pull_by.Goals as goal
 

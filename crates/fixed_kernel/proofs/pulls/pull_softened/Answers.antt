@@ -1,5 +1,6 @@
 use Rattle.std.proofs.Common.{◌≤◌, ◌*◌, ◌^◌, refl, arith}
-use Rattle.hot_model.specs.Kernel.{root, point_at}
+use Rattle.hot_units.specs.Values.{point_at}
+use Rattle.hot_model.specs.Kernel.{root}
 use Rattle.fixed_kernel.proofs.Fast.{pull-over, pull-small}
 use Rattle.fixed_kernel.proofs.pulls.pull_softened.Goals as goal
 

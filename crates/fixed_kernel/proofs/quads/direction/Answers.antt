@@ -1,7 +1,7 @@
 use Rattle.std.proofs.Common.{arith}
-use Rattle.hot_model.specs.Kernel.{point_at}
-use Rattle.hot_model.proofs.Second.{near-x, near-y, near-z}
+use Rattle.hot_units.specs.Values.{point_at}
 use Rattle.hot_model.proofs.Pulls.{root-below}
+use Rattle.hot_model.proofs.Second.{near-x, near-y, near-z}
 use Rattle.fixed_kernel.proofs.quads.direction.Goals as goal
 
 pub heading-requires-clause-x_near : goal.heading-requires-clause-x_near

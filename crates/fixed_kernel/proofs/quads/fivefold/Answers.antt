@@ -1,6 +1,6 @@
 use Rattle.std.proofs.Common.{ℤ, ◌^◌, ap, ◌∙◌}
+use Rattle.hot_units.proofs.Signed.{stored}
 use Rattle.hot_model.specs.Second.{trunc}
-use Rattle.hot_model.proofs.Signed.{stored}
 use Rattle.fixed_kernel.proofs.Signs.{five-stored, five-small}
 use Rattle.fixed_kernel.proofs.quads.fivefold.Goals as goal
 

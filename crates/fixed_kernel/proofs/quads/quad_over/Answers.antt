@@ -1,7 +1,6 @@
 use Rattle.std.proofs.Common.{refl, subst}
-use Rattle.hot_model.specs.Values.{CellValue}
+use Rattle.hot_units.specs.Values.{CellValue, vector_at}
 use Rattle.hot_model.specs.Facts.{IsCellRecord}
-use Rattle.hot_model.specs.Kernel.{vector_at}
 use Rattle.hot_model.proofs.Second.{spread-fits, tensor-fits, turned-fits}
 use Rattle.fixed_kernel.proofs.Bending.{quadrupole-short}
 use Rattle.fixed_kernel.proofs.quads.quad_over.Goals as goal

@@ -1,8 +1,8 @@
 use Rattle.std.proofs.Common.{ap, subst, ◌∙◌}
-use Rattle.hot_model.specs.Values.{CellValue}
+use Rattle.hot_units.specs.Values.{CellValue, point_at}
+use Rattle.hot_units.specs.Keys.{side}
 use Rattle.hot_model.specs.Facts.{IsCellRecord}
-use Rattle.hot_model.specs.Keys.{side}
-use Rattle.hot_model.specs.Kernel.{square, point_at}
+use Rattle.hot_model.specs.Kernel.{square}
 use Rattle.fixed_kernel.proofs.Bending.{none-near, beyond-apart, beyond-side, heads-small, far-value, value-small}
 use Rattle.fixed_kernel.proofs.quads.quad_softened.Goals as goal
 

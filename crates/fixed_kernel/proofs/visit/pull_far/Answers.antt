@@ -1,5 +1,5 @@
 use Rattle.std.proofs.Common.{◌≤◌, subst, ap, arith}
-use Rattle.hot_model.specs.Values.{CellValue}
+use Rattle.hot_units.specs.Values.{CellValue}
 use Rattle.hot_model.specs.Facts.{IsCellRecord}
 use Rattle.fixed_kernel.proofs.Bending.{sum-small}
 use Rattle.fixed_kernel.proofs.visit.pull_far.Goals as goal

@@ -3,7 +3,7 @@ use Rattle.std.specs.Prelude.{flat_map, ℤ}
 use mir.Syntax.{w128}
 use mir.Val.{of_z, to_z}
 use Rattle.byteorder.specs.Endian.{little_bytes}
-use Rattle.hot_model.specs.Values.{Acc3Value}
+use Rattle.hot_units.specs.Values.{Acc3Value}
 use Rattle.force_out.specs.ForcesSdf.{columns, body_values, body_row}
 use Rattle.force_out.proofs.sdf.add_row.Goals as goal
 

@@ -1,5 +1,5 @@
 use Rattle.std.proofs.Common.{◌≡◌, ap, ◌∙◌, sym, subst, List}
-use Rattle.hot_model.specs.Values.{BodyValue}
+use Rattle.hot_units.specs.Values.{BodyValue}
 use Rattle.hot_words.specs.Commands.{job_value}
 use Rattle.rank_set.specs.Places.{ArePlaced}
 use Rattle.hot.proofs.Walks.{walk_here, ran, ran_err}

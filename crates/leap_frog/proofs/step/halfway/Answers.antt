@@ -1,6 +1,6 @@
 use Rattle.std.proofs.Common.{◌+◌, ◌^◌, List, length, map, ap, ◌∙◌, sym, subst, arith}
 use Rattle.std.specs.Prelude.{All}
-use Rattle.hot_model.specs.Values.{Vector}
+use Rattle.hot_units.specs.Values.{Vector}
 use Rattle.leap_frog.specs.States.{IsWithin, IsDrifted, moving, sums, force_in, max_speed, max_force, max_kicked}
 use Rattle.leap_frog.proofs.Steps.{all-within, half-state}
 use Rattle.leap_frog.proofs.step.halfway.Goals as goal

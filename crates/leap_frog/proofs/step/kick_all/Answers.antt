@@ -1,6 +1,6 @@
 use Rattle.std.proofs.Common.{◌+◌, ◌^◌, List, length, map, ap, ◌∙◌, sym, subst}
 use Rattle.std.specs.Prelude.{All}
-use Rattle.hot_model.specs.Values.{Vector}
+use Rattle.hot_units.specs.Values.{Vector}
 use Rattle.leap_frog.specs.States.{sums, force_in, IsWithin, max_force}
 use Rattle.leap_frog.proofs.States.{written-back}
 use Rattle.leap_frog.proofs.step.kick_all.Goals as goal

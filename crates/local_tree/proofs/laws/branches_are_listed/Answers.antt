@@ -1,6 +1,6 @@
-use Rattle.hot_model.specs.Branches.{branches}
-use Rattle.hot_model.proofs.Counts.{branches-are, branches_ascend}
-use Rattle.hot_model.proofs.Sorts.{ascends_strict}
+use Rattle.hot_units.proofs.Sorts.{ascends_strict}
+use Rattle.rank_model.specs.Branches.{branches}
+use Rattle.rank_model.proofs.Counts.{branches-are, branches_ascend}
 use Rattle.local_tree.proofs.laws.branches_are_listed.Goals as goal
 
 pub returns : goal.returns

@@ -1,6 +1,6 @@
-use Rattle.hot_model.specs.Branches.{cells}
-use Rattle.hot_model.proofs.Counts.{cells-are, cells_ascend, cells_short}
-use Rattle.hot_model.proofs.Sorts.{ascends_strict}
+use Rattle.hot_units.proofs.Sorts.{ascends_strict}
+use Rattle.hot_model.specs.Cells.{cells}
+use Rattle.hot_model.proofs.Cells.{cells-are, cells_ascend, cells_short}
 use Rattle.local_tree.proofs.laws.cells_are_listed.Goals as goal
 
 pub returns : goal.returns

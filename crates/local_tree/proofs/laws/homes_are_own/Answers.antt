@@ -1,4 +1,4 @@
-use Rattle.hot_model.proofs.Homes.{home-is-own}
+use Rattle.rank_model.proofs.Homes.{home-is-own}
 use Rattle.local_tree.proofs.laws.homes_are_own.Goals as goal
 
 pub returns : goal.returns

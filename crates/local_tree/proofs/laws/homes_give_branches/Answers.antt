@@ -1,4 +1,4 @@
-use Rattle.hot_model.proofs.Homes.{home-branches}
+use Rattle.rank_model.proofs.Homes.{home-branches}
 use Rattle.local_tree.proofs.laws.homes_give_branches.Goals as goal
 
 pub returns : goal.returns

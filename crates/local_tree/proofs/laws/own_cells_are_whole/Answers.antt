@@ -1,4 +1,4 @@
-use Rattle.hot_model.proofs.Homes.{inside_piece, record_piece, answer-piece}
+use Rattle.rank_model.proofs.Homes.{inside_piece, record_piece, answer-piece}
 use Rattle.local_tree.proofs.laws.own_cells_are_whole.Goals as goal
 
 pub returns : goal.returns

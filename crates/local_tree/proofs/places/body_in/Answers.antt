@@ -1,5 +1,5 @@
 use Rattle.std.proofs.Common.{◌≡◌, ◌+◌, sym, ap, ◌∙◌, Some, arith}
-use Rattle.hot_model.specs.Keys.{key_of_body}
+use Rattle.hot_units.specs.Keys.{key_of_body}
 use Rattle.morton_key.specs.Ranges.{last_key}
 use Rattle.local_tree.proofs.Searches.{count-le, place-past}
 use Rattle.local_tree.proofs.Edges.{body-some, body-none}

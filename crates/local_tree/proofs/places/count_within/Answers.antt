@@ -1,5 +1,5 @@
 use Rattle.std.proofs.Common.{◌≡◌, ◌+◌, ◌-◌, ◌/◌, ◌<◌, ◌≤◌, length, sym, ap, ◌∙◌, arith}
-use Rattle.hot_model.specs.Keys.{key_of_body}
+use Rattle.hot_units.specs.Keys.{key_of_body}
 use Rattle.local_tree.proofs.Searches.{place-low, place-high}
 use Rattle.local_tree.proofs.places.count_within.Goals as goal
 

@@ -1,5 +1,5 @@
 use Rattle.std.proofs.Common.{ℕ, ◌/◌, ◌-◌, ap}
-use Rattle.hot_model.proofs.Digits.{two_pow_three}
+use Rattle.hot_units.proofs.Digits.{two_pow_three}
 use Rattle.local_tree.proofs.places.front.Goals as goal
 
 pub returns : goal.returns

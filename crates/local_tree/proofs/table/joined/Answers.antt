@@ -1,6 +1,7 @@
 use Rattle.std.proofs.Common.{ℕ, ◌≡◌, ◌+◌, ◌-◌, ◌<◌, sym, ap, ◌∙◌, subst, arith}
-use Rattle.hot_model.specs.Values.{CellValue}
-use Rattle.hot_model.specs.Trees.{cell_record, child}
+use Rattle.hot_units.specs.Values.{CellValue}
+use Rattle.hot_units.specs.Keys.{child}
+use Rattle.hot_model.specs.Trees.{cell_record}
 use Rattle.local_tree.proofs.Edges.{span-length}
 use Rattle.local_tree.proofs.Falling.{key_in, record-of-known}
 use Rattle.local_tree.proofs.Parts.{IsPart, from_digit, part-added, part-skipped, part-few, part-light, part-covers, part-whole}

@@ -1,6 +1,6 @@
 use Rattle.std.proofs.Common.{rules, ◌≡◌, ◌<◌, ◌≤◌, ◌-◌, [], ◌∷◌, length, get_or, ap, arith, length-append}
 use Rattle.std.specs.Prelude.{IsTrue}
-use Rattle.hot_model.specs.Values.{CellValue}
+use Rattle.hot_units.specs.Values.{CellValue}
 use Rattle.local_tree.proofs.Edges.{span-some}
 use Rattle.local_tree.proofs.Falling.{key_in, falling-push, known-push}
 use Rattle.local_tree.proofs.table.push_record.Goals as goal

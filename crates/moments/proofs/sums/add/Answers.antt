@@ -1,7 +1,7 @@
 use Rattle.std.proofs.Common.{ℕ, ◌≡◌, ◌≤◌, ◌+◌, true, ap, ◌∙◌, arith}
-use Rattle.hot_model.specs.Limits.{max_all_mass}
-use Rattle.hot_model.specs.Values.{CellValue, cell_of}
-use Rattle.hot_model.specs.Keys.{covers}
+use Rattle.hot_units.specs.Limits.{max_all_mass}
+use Rattle.hot_units.specs.Values.{CellValue, cell_of}
+use Rattle.hot_units.specs.Keys.{covers}
 use Rattle.hot_model.proofs.Corners.{sxx-in-cube, syy-in-cube, szz-in-cube, sxy-in-cube, sxz-in-cube, syz-in-cube}
 use Rattle.moments.proofs.Joins.{fits-two, joined-facts, sx-small, sy-small, sz-small}
 use Rattle.moments.proofs.sums.add.Goals as goal

@@ -1,5 +1,5 @@
 use Rattle.std.proofs.Common.{◌≡◌, ◌/◌, ◌-◌, ◌^◌}
-use Rattle.hot_model.specs.Keys.{bits_along}
+use Rattle.hot_units.specs.Keys.{bits_along}
 use Rattle.morton_key.proofs.boxes.bits_along.Given as goal
 
 -- the bits so far are those of the digits that are done, from the first on

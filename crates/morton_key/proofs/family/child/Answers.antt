@@ -1,5 +1,5 @@
 use Rattle.std.proofs.Common.{◌<◌, arith}
-use Rattle.hot_model.specs.Keys.{level}
+use Rattle.hot_units.specs.Keys.{level}
 use Rattle.morton_key.proofs.Numbers.{child_fits, child_is_cell, child_lowers}
 use Rattle.morton_key.proofs.family.child.Goals as goal
 

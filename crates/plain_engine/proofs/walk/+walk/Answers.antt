@@ -1,11 +1,12 @@
 use Rattle.std.proofs.Common.{ℕ, suc, ◌≡◌, ◌-◌, ◌≤◌, length, take, sym, ap, ◌∙◌, ◌<◌, arith, rules, vec_len}
 use Rattle.std.proofs.lemmas.List.{take_all}
-use Rattle.hot_model.specs.Keys.{height}
-use Rattle.hot_model.specs.Trees.{inside, mass_of, mass_of_body, digits, child, added}
-use Rattle.hot_model.proofs.Heights.{height_le, height_level}
-use Rattle.plain_engine.proofs.Below.{has_child, child-terms, child-bodies}
+use Rattle.hot_units.specs.Keys.{height, digits, child}
+use Rattle.hot_units.specs.Bodies.{mass_of, mass_of_body}
+use Rattle.hot_model.specs.Trees.{inside, added}
 use Rattle.hot_model.proofs.Parts.{children_share}
 use Rattle.hot_model.proofs.Walks.{nothing-case, whole-case, last-case, leaf-case, parted-case, child-fits, children-value, children-sum, children-room}
+use Rattle.hot_model.proofs.Heights.{height_le, height_level}
+use Rattle.plain_engine.proofs.Below.{has_child, child-terms, child-bodies}
 use Rattle.plain_engine.proofs.walk.+walk.Goals as goal
 
 -- a cell without bodies: nothing was added

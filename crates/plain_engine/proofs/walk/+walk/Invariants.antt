@@ -1,6 +1,7 @@
 use Rattle.std.proofs.Common.{◌≡◌, ◌+◌, ◌-◌, take, flat_map, sum_by}
-use Rattle.hot_model.specs.Keys.{height}
-use Rattle.hot_model.specs.Trees.{added, mass_of, terms_in, digits, child, inside}
+use Rattle.hot_units.specs.Keys.{height, digits, child}
+use Rattle.hot_units.specs.Bodies.{mass_of}
+use Rattle.hot_model.specs.Trees.{added, terms_in, inside}
 use Rattle.plain_engine.proofs.walk.+walk.Given as goal
 
 -- how many levels are below the cell

@@ -1,5 +1,6 @@
 use Rattle.std.proofs.Common.{◌≡◌, ◌+◌, take, map}
-use Rattle.hot_model.specs.Trees.{added, mass_of, Near}
+use Rattle.hot_units.specs.Bodies.{mass_of}
+use Rattle.hot_model.specs.Trees.{added, Near}
 use Rattle.plain_engine.proofs.walk.add_listed.Given as goal
 
 -- the first bodies of the list were added, and their mass was seen

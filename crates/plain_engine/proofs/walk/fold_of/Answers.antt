@@ -1,6 +1,6 @@
 use Rattle.std.proofs.Common.{◌≡◌, arith, ap, sym}
-use Rattle.hot_model.specs.Keys.{height}
-use Rattle.hot_model.specs.Trees.{mass_of}
+use Rattle.hot_units.specs.Keys.{height}
+use Rattle.hot_units.specs.Bodies.{mass_of}
 use Rattle.hot_model.proofs.Parts.{inside-root}
 use Rattle.hot_model.proofs.Fronts.{root_level}
 use Rattle.hot_model.proofs.Heights.{height_is}

@@ -1,5 +1,5 @@
 use Rattle.std.proofs.Common.{◌≡◌, ◌++◌, length}
-use Rattle.hot_model.specs.World.{World}
+use Rattle.rank_model.specs.World.{World}
 use Rattle.rank_core.specs.Standing.{StandsIn, meant_by}
 use Rattle.protocol.specs.Ranks.{Together}
 use Rattle.rank_set.specs.Efforts.{AreFindsTo}

@@ -1,5 +1,5 @@
 use Rattle.std.proofs.Common.{◌≡◌, ◌<◌, length}
-use Rattle.hot_model.specs.World.{IsGood}
+use Rattle.rank_model.specs.World.{IsGood}
 use Rattle.rank_core.specs.Standing.{StandsIn}
 use Rattle.rank_set.specs.Sharings.{shared}
 use Rattle.rank_set.proofs.Making.{AllMade}

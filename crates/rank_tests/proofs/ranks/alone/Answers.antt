@@ -1,5 +1,5 @@
 use Rattle.std.proofs.Common.{List, [], ◌∷◌, None, sym, ap, ◌∙◌, subst}
-use Rattle.hot_model.specs.Values.{BodyValue}
+use Rattle.hot_units.specs.Values.{BodyValue}
 use Rattle.rank_tests.specs.Worlds.{one, near}
 use Rattle.rank_core.specs.Standing.{IsHere}
 use Rattle.rank_tests.proofs.Worlds.{here_alone}

@@ -1,6 +1,6 @@
 use Rattle.std.proofs.Common.{◌≡◌, ◌≤◌, length}
-use Rattle.round_runner.specs.Desk.{letters_in, rounds_in}
-use Rattle.round_runner.specs.declared.wire.Turn.TheVariants as turns
+use Rattle.wire.specs.Desk.{letters_in, rounds_in}
+use Rattle.wire.specs.declared.wire.Turn.TheVariants as turns
 use Rattle.rank_tests.proofs.wires.end_round.Given as goal
 
 -- the turn is free, and the log has no more rounds than letters

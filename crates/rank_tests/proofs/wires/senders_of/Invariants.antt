@@ -1,5 +1,5 @@
 use Rattle.std.proofs.Common.{◌≡◌}
-use Rattle.round_runner.specs.declared.wire.Turn.TheVariants as turns
+use Rattle.wire.specs.declared.wire.Turn.TheVariants as turns
 use Rattle.rank_tests.proofs.wires.senders_of.Given as goal
 
 -- the turn is free between two rounds

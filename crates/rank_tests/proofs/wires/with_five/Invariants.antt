@@ -1,5 +1,5 @@
 use Rattle.std.proofs.Common.{◌≡◌}
-use Rattle.round_runner.specs.declared.wire.Turn.TheVariants as turns
+use Rattle.wire.specs.declared.wire.Turn.TheVariants as turns
 use Rattle.rank_tests.proofs.wires.with_five.Given as goal
 
 -- the turn is free while the letters are posted

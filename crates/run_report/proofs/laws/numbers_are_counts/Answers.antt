@@ -1,7 +1,7 @@
 use Rattle.std.proofs.Common.{inl, inr}
-use Rattle.hot_model.specs.Needs.{needed}
-use Rattle.hot_model.proofs.Counts.{needed-are, needed_ascend}
-use Rattle.hot_model.proofs.Sorts.{ascends_strict}
+use Rattle.hot_units.proofs.Sorts.{ascends_strict}
+use Rattle.rank_model.specs.Needs.{needed}
+use Rattle.rank_model.proofs.Counts.{needed-are, needed_ascend}
 use Rattle.split_table.proofs.AllBranches.{branch_in_cells, cell_is_branch}
 use Rattle.run_report.proofs.CellsInPlay.{met_are, met_ascend}
 use Rattle.run_report.proofs.Openings.{opens_once}

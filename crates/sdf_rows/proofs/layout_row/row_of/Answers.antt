@@ -1,6 +1,6 @@
 use Rattle.std.proofs.Common.{◌≡◌, ℤ, pos, negsuc, refl, arith}
 use Rattle.std.proofs.lemmas.Int.{ints}
-use Rattle.hot_model.proofs.Signed.{stored}
+use Rattle.hot_units.proofs.Signed.{stored}
 use Rattle.sdf_rows.specs.Columns.{Is64Bits}
 use Rattle.sdf_rows.proofs.layout_row.row_of.Goals as goal
 use mir.Syntax.{w128}

@@ -1,9 +1,11 @@
-use Rattle.hot_model.specs.World.{bodies_in}
-use Rattle.hot_model.specs.Branches.{cells, tops}
-use Rattle.hot_model.specs.Needs.{is_listed}
-use Rattle.hot_model.proofs.Owners.{first_of_own}
-use Rattle.hot_model.proofs.Sorts.{ascends_filter, ascends_strict}
-use Rattle.hot_model.proofs.Counts.{cells_ascend, tops-are, tops_ascend}
+use Rattle.hot_units.proofs.Sorts.{ascends_filter, ascends_strict}
+use Rattle.hot_model.specs.Cells.{cells}
+use Rattle.hot_model.proofs.Cells.{cells_ascend}
+use Rattle.rank_model.specs.World.{bodies_in}
+use Rattle.rank_model.specs.Branches.{tops}
+use Rattle.rank_model.specs.Needs.{is_listed}
+use Rattle.rank_model.proofs.Owners.{first_of_own}
+use Rattle.rank_model.proofs.Counts.{tops-are, tops_ascend}
 use Rattle.split_table.specs.Table.{branch_cells}
 use Rattle.split_table.proofs.AllBranches.{branch_in_cells, cell_is_branch}
 use Rattle.split_table.proofs.laws.cells_are_shown.Goals as goal

@@ -1,9 +1,9 @@
 use Rattle.std.proofs.Common.{◌≡◌, ℕ, List, length, ap, ◌∙◌, subst, sym, arith}
 use Rattle.std.specs.Result.{IfOk}
-use Rattle.hot_model.specs.Values.{CellValue}
-use Rattle.hot_model.specs.Order.{IsInOrder}
-use Rattle.hot_model.specs.World.{left_of, right_of}
-use Rattle.hot_model.proofs.Worlds.{piece_in_order}
+use Rattle.hot_units.specs.Values.{CellValue}
+use Rattle.hot_units.specs.Order.{IsInOrder}
+use Rattle.rank_model.specs.World.{left_of, right_of}
+use Rattle.rank_model.proofs.Worlds.{piece_in_order}
 use Rattle.local_tree.specs.Pieces.{PieceValue}
 use Rattle.work_split.specs.Splits.{world_of, ranks_of}
 use Rattle.split_table.proofs.Parts.{piece_short, piece_light, left_is_key, right_is_key, branches-of_piece}

@@ -1,5 +1,6 @@
 use Rattle.std.proofs.Common.{◌≡◌, ℕ, map, ap, ◌∙◌, sym, arith}
-use Rattle.hot_model.specs.Branches.{numbers_below, branch_records}
+use Rattle.hot_units.specs.Numbers.{numbers_below}
+use Rattle.rank_model.specs.Branches.{branch_records}
 use Rattle.work_split.specs.Splits.{world_of}
 use Rattle.split_table.proofs.Parts.{items-next, items-none}
 use Rattle.split_table.proofs.lists.lists_of.Goals as goal

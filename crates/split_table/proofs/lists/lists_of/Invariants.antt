@@ -1,6 +1,7 @@
 use Rattle.std.proofs.Common.{◌≡◌, ◌<◌, map}
-use Rattle.hot_model.specs.World.{IsGood}
-use Rattle.hot_model.specs.Branches.{numbers_below, branch_records}
+use Rattle.hot_units.specs.Numbers.{numbers_below}
+use Rattle.rank_model.specs.World.{IsGood}
+use Rattle.rank_model.specs.Branches.{branch_records}
 use Rattle.work_split.specs.Splits.{world_of}
 use Rattle.split_table.proofs.lists.lists_of.Given as goal
 

@@ -1,5 +1,5 @@
 use Rattle.std.proofs.Common.{◌≡◌, ℕ, length, map, ap, ◌∙◌, sym, arith}
-use Rattle.hot_model.specs.Branches.{numbers_below}
+use Rattle.hot_units.specs.Numbers.{numbers_below}
 use Rattle.work_split.specs.Splits.{pieces_of, ranks_of}
 use Rattle.split_table.specs.Table.{share_of}
 use Rattle.split_table.proofs.Parts.{items-next, items-none, share, share-is}

@@ -1,5 +1,5 @@
 use Rattle.std.proofs.Common.{◌≡◌, map}
-use Rattle.hot_model.specs.Branches.{numbers_below}
+use Rattle.hot_units.specs.Numbers.{numbers_below}
 use Rattle.split_table.specs.Table.{share_of}
 use Rattle.split_table.proofs.share.shares_of.Given as goal
 

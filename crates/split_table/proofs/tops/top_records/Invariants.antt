@@ -1,5 +1,5 @@
 use Rattle.std.proofs.Common.{◌≡◌, ◌-◌, vec_len}
-use Rattle.hot_model.specs.World.{World}
+use Rattle.rank_model.specs.World.{World}
 use Rattle.split_table.specs.Steps.{AreLists}
 use Rattle.split_table.proofs.TopRecords.{first_records, most_tops}
 use Rattle.split_table.proofs.tops.top_records.Given as goal

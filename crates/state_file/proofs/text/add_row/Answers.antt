@@ -3,7 +3,7 @@ use mir.Syntax.{w128}
 use mir.Val.{of_z, to_z}
 use Rattle.std.proofs.lemmas.Int.{to_z-of_z}
 use Rattle.byteorder.specs.Endian.{little_bytes}
-use Rattle.hot_model.specs.Values.{BodyValue}
+use Rattle.hot_units.specs.Values.{BodyValue}
 use Rattle.leap_frog.specs.States.{vector_of}
 use Rattle.state_file.specs.Texts.{bits_of}
 use Rattle.state_file.proofs.Writing.{row-added}

@@ -1,7 +1,7 @@
 use Rattle.std.proofs.Common.{◌≡◌, ◌<◌, ◌≤◌, ◌-◌, length, get_or, rules, arith, subst, sym}
-use Rattle.hot_model.specs.Keys.{key_of_body}
-use Rattle.hot_model.specs.Values.{BodyValue}
-use Rattle.hot_model.specs.World.{IsBody}
+use Rattle.hot_units.specs.Values.{BodyValue}
+use Rattle.hot_units.specs.Keys.{key_of_body}
+use Rattle.hot_units.specs.Bodies.{IsBody}
 use Rattle.defer_walk.specs.Listing.{IsListing}
 use Rattle.tree_tests.proofs.Listings.{listing_more}
 use Rattle.tree_tests.proofs.samples.push_body.Goals as goal

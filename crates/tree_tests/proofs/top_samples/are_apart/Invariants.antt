@@ -1,5 +1,5 @@
 use Rattle.std.proofs.Common.{ℕ, ◌≡◌, ◌<◌, true, length, get_or}
-use Rattle.hot_model.specs.Keys.{covers}
+use Rattle.hot_units.specs.Keys.{covers}
 use Rattle.branch_merge.specs.declared.listed.Listed.{Listed}
 use Rattle.tree_tests.proofs.top_samples.are_apart.Given as goal
 

@@ -1,7 +1,7 @@
 use Rattle.std.proofs.Common.{ℕ, ◌≡◌, ◌≤◌, ap, subst, arith}
 use Rattle.std.proofs.lemmas.List.Elements.{All-more}
 use Rattle.std.proofs.lemmas.List.Sums.{sum_by_more}
-use Rattle.hot_model.specs.Values.{CellValue}
+use Rattle.hot_units.specs.Values.{CellValue}
 use Rattle.branch_merge.specs.declared.listed.Listed.{Listed}
 use Rattle.tree_tests.proofs.top_samples.are_light.Goals as goal
 

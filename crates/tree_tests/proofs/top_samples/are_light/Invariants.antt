@@ -1,6 +1,6 @@
 use Rattle.std.proofs.Common.{◌≡◌, ◌<◌, ◌≤◌, ◌^◌, take, sum_by}
 use Rattle.std.specs.Prelude.{All}
-use Rattle.hot_model.specs.Limits.{max_all_mass}
+use Rattle.hot_units.specs.Limits.{max_all_mass}
 use Rattle.tree_tests.proofs.top_samples.are_light.Given as goal
 
 abbrev pub invariant-loop-x : goal.invariant-loop-x

@@ -1,5 +1,5 @@
 use Rattle.std.proofs.Common.{◌≡◌, ◌∙◌, refl}
-use Rattle.hot_model.specs.World.{piece}
+use Rattle.rank_model.specs.World.{piece}
 use Rattle.defer_walk.specs.Listing.{world_of}
 use Rattle.tree_tests.proofs.UnderWay.{first-none}
 use Rattle.tree_tests.proofs.walks.begun.Goals as goal

@@ -1,6 +1,6 @@
 use Rattle.std.proofs.Common.{◌≡◌, ◌-◌, ◌<◌, length, ap, ◌∙◌, arith}
 use Rattle.std.proofs.lemmas.Grind.{common_steps}
-use Rattle.hot_model.specs.Keys.{key_of_body}
+use Rattle.hot_units.specs.Keys.{key_of_body}
 use Rattle.work_split.proofs.Keys.{last-greatest, no-greatest}
 use Rattle.work_split.proofs.pieces.greatest_key.Goals as goal
 

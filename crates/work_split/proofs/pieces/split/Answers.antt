@@ -1,6 +1,6 @@
 use Rattle.std.proofs.Common.{ℕ, suc, ◌≡◌, ◌+◌, List, [], ◌∷◌, ◌++◌, length, map, sym, ap, ◌∙◌, arith, get_or, add-one}
-use Rattle.hot_model.specs.Branches.{numbers_below}
-use Rattle.hot_model.specs.World.{rank_of}
+use Rattle.hot_units.specs.Numbers.{numbers_below}
+use Rattle.rank_model.specs.World.{rank_of}
 use Rattle.work_split.specs.Splits.{world_of, start}
 use Rattle.work_split.proofs.Cuts.{lower-none}
 use Rattle.work_split.proofs.Lists.{next-start, start-within, none-yet, next-rank, length-of-ranks, weights-all, pieces-are}

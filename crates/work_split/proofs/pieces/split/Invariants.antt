@@ -1,5 +1,5 @@
 use Rattle.std.proofs.Common.{suc, ◌≡◌, map}
-use Rattle.hot_model.specs.Branches.{numbers_below}
+use Rattle.hot_units.specs.Numbers.{numbers_below}
 use Rattle.work_split.specs.Splits.{world_of, start}
 use Rattle.work_split.proofs.pieces.split.Given as goal
 

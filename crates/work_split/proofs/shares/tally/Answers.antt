@@ -1,9 +1,9 @@
 use Rattle.std.proofs.Common.{ℕ, ◌≡◌, ◌<◌, ◌≤◌, ◌+◌, length, sym, ap, subst, ◌∙◌, arith, get_or, replicate, take, drop, sum_by, rules}
 use Rattle.std.proofs.lemmas.List.{get_or_default}
 use Rattle.std.specs.Prelude.{All}
-use Rattle.hot_model.specs.Keys.{key_of_body}
-use Rattle.hot_model.specs.Split.{weight_in, counted, split_rank}
+use Rattle.hot_units.specs.Keys.{key_of_body}
 use Rattle.hot_model.proofs.Ranges.{NoneBelow}
+use Rattle.rank_model.specs.Split.{weight_in, counted, split_rank}
 use Rattle.work_split.proofs.Passes.{rank-first, ahead-first, counts-first, sums-first, count-within, sum-within, counts-next, sums-next, take-short, weight-is, before-next, rank-next, whole-is, ahead-next, passed-next}
 use Rattle.work_split.proofs.shares.tally.Goals as goal
 use Rattle.work_split.proofs.shares.tally.Goals.{then-b-key, else-b-key, then-all-eq0, else-all-eq0}

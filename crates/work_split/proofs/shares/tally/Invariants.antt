@@ -1,9 +1,9 @@
 use Rattle.std.proofs.Common.{◌≡◌, ◌*◌, ◌<◌, ◌≤◌, take, drop, sum_by}
 use Rattle.std.specs.Prelude.{All}
-use Rattle.hot_model.specs.Keys.{key_of_body}
-use Rattle.hot_model.specs.Limits.{max_work}
-use Rattle.hot_model.specs.Split.{weight_in, counted, split_rank}
+use Rattle.hot_units.specs.Limits.{max_work}
+use Rattle.hot_units.specs.Keys.{key_of_body}
 use Rattle.hot_model.proofs.Ranges.{NoneBelow}
+use Rattle.rank_model.specs.Split.{weight_in, counted, split_rank}
 use Rattle.work_split.specs.Splits.{AreCounts, AreWeights}
 use Rattle.work_split.proofs.shares.tally.Given as goal
 

@@ -1,6 +1,6 @@
 use Rattle.std.proofs.Common.{◌≡◌, ◌*◌, ◌≤◌, take, sum_by}
-use Rattle.hot_model.specs.Limits.{max_work}
-use Rattle.hot_model.specs.Split.{weight_in}
+use Rattle.hot_units.specs.Limits.{max_work}
+use Rattle.rank_model.specs.Split.{weight_in}
 use Rattle.work_split.proofs.weights.total.Given as goal
 
 -- the sum is that of the weights of the bodies passed

@@ -1,7 +1,7 @@
 use Rattle.std.proofs.Common.{◌≡◌, ℕ, ◌∙◌, ap, refl, rules, arith, length, None, SFits}
 use Rattle.std.specs.Int.{w128}
 use Rattle.std.proofs.lemmas.Int.{to_z-of_z}
-use Rattle.hot_model.specs.Values.{BodyValue}
+use Rattle.hot_units.specs.Values.{BodyValue}
 use Rattle.body_set.specs.Rows.{first_fault, body_of_row, weight_of_row}
 use Rattle.body_set.proofs.FirstFault.{accepted, few_of_none}
 use Rattle.body_set.proofs.Growing.{grown_set}

@@ -2,7 +2,7 @@ use Rattle.std.proofs.Common.{sym, ◌∙◌, subst, ap, refl, List, [], length,
 use Rattle.std.proofs.lemmas.Bool.{eqb-true}
 use Rattle.std.proofs.lemmas.List.{with_items_is, length-append}
 use Rattle.std.specs.Prelude.{All}
-use Rattle.hot_model.specs.Values.{BodyValue}
+use Rattle.hot_units.specs.Values.{BodyValue}
 use Rattle.defer_walk.specs.declared.listed.Listed.{Listed}
 use Rattle.defer_walk.specs.Standing.{VisitOf, meaning, StandsFor, AreUnanswered, IsNewAsk, pairs_in, left_by, given_of}
 use Rattle.defer_walk.proofs.Slots.{given_extends, extends_same}

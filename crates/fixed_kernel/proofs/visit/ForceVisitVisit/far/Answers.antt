@@ -1,5 +1,5 @@
 use Rattle.std.proofs.Common.{ap}
-use Rattle.hot_model.specs.Values.{CellValue}
+use Rattle.hot_units.specs.Values.{CellValue}
 use Rattle.fixed_kernel.specs.Visit.{VisitValue}
 use Rattle.fixed_kernel.proofs.Adds.{far_adds}
 use Rattle.fixed_kernel.proofs.visit.ForceVisitVisit.far.Goals as goal

@@ -1,6 +1,5 @@
 use Rattle.std.proofs.Common.{ap, ◌∙◌}
-use Rattle.hot_model.specs.Values.{BodyValue, place}
-use Rattle.hot_model.specs.Kernel.{coordinates}
+use Rattle.hot_units.specs.Values.{BodyValue, place, coordinates}
 use Rattle.fixed_kernel.specs.Visit.{VisitValue}
 use Rattle.fixed_kernel.proofs.Adds.{near_adds}
 use Rattle.fixed_kernel.proofs.visit.ForceVisitVisit.near.Goals as goal

@@ -1,8 +1,8 @@
 use Rattle.std.proofs.Common.{◌≡◌, ◌<◌, ◌^◌, ◌/◌, arith, subst}
-use Rattle.hot_model.specs.Values.{CellValue, cell_of}
-use Rattle.hot_model.specs.Keys.{IsInBox}
-use Rattle.hot_model.proofs.Keys.{part-in}
+use Rattle.hot_units.specs.Values.{CellValue, cell_of}
+use Rattle.hot_units.specs.Keys.{IsInBox}
 use Rattle.hot_model.proofs.Corners.{centre-in-box, sx-in-cube, sy-in-cube, sz-in-cube}
+use Rattle.hot_model.proofs.Centres.{part-in}
 use Rattle.hot_model.proofs.cell.CellRec.centre.Goals as goal
 
 -- the centre is a place in the cube

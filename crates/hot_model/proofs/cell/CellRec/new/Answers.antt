@@ -1,4 +1,4 @@
-use Rattle.hot_model.specs.Values.{cell_by}
+use Rattle.hot_units.specs.Values.{cell_by}
 use Rattle.hot_model.proofs.Corners.{sx-in-cube, sy-in-cube, sz-in-cube}
 use Rattle.hot_model.proofs.cell.CellRec.new.Goals as goal
 

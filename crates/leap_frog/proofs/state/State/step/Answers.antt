@@ -1,5 +1,5 @@
 use Rattle.std.proofs.Common.{◌≡◌, ◌^◌, List, ap, sym, subst, ◌∙◌}
-use Rattle.hot_model.specs.Values.{BodyValue}
+use Rattle.hot_units.specs.Values.{BodyValue}
 use Rattle.hot_model.specs.Trees.{force}
 use Rattle.leap_frog.specs.Leap.{bodies_of}
 use Rattle.leap_frog.specs.States.{moving, max_inside}

@@ -1,8 +1,7 @@
 use Rattle.std.proofs.Common.{ℕ, ◌≡◌, ◌<◌, length, get_or, sym, ap, ◌∙◌, subst}
-use Rattle.hot_model.specs.Keys.{key_of_body, IsCell}
+use Rattle.hot_units.specs.Keys.{key_of_body, IsCell, front, parent}
 use Rattle.hot_model.specs.Trees.{cell_record, inside}
-use Rattle.hot_model.specs.Branches.{front, parent}
-use Rattle.hot_model.specs.Homes.{is_home_branch}
+use Rattle.rank_model.specs.Homes.{is_home_branch}
 use Rattle.local_tree.specs.Pieces.{PieceValue}
 use Rattle.local_tree.proofs.Fronts.{front_of, front-cell, front-some, above-some, level-more, last-more}
 use Rattle.local_tree.proofs.tree.LocalTree.add_level.Goals as goal

@@ -1,9 +1,8 @@
 use Rattle.std.proofs.Common.{◌≡◌, ◌++◌, eqb, map, filter, take}
 use Rattle.std.specs.List.{dedup}
-use Rattle.hot_model.specs.Keys.{key_of_body}
+use Rattle.hot_units.specs.Keys.{key_of_body, front}
 use Rattle.hot_model.specs.Trees.{cell_record}
-use Rattle.hot_model.specs.Branches.{front}
-use Rattle.hot_model.specs.Homes.{is_home_branch}
+use Rattle.rank_model.specs.Homes.{is_home_branch}
 use Rattle.local_tree.proofs.Fronts.{last_or}
 use Rattle.local_tree.proofs.tree.LocalTree.add_level.Given as goal
 

@@ -1,5 +1,5 @@
 use Rattle.hot_model.specs.Trees.{cell_record}
-use Rattle.hot_model.specs.Homes.{is_home_branch}
+use Rattle.rank_model.specs.Homes.{is_home_branch}
 use Rattle.local_tree.proofs.Fronts.{levels-none, levels-more}
 use Rattle.local_tree.proofs.tree.LocalTree.branches.Goals as goal
 

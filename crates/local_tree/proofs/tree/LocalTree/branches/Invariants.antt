@@ -1,7 +1,7 @@
 use Rattle.std.proofs.Common.{◌≡◌, map, filter}
 use Rattle.hot_model.specs.Trees.{cell_record}
-use Rattle.hot_model.specs.Branches.{cells_above}
-use Rattle.hot_model.specs.Homes.{is_home_branch}
+use Rattle.hot_model.specs.Cells.{cells_above}
+use Rattle.rank_model.specs.Homes.{is_home_branch}
 use Rattle.local_tree.proofs.tree.LocalTree.branches.Given as goal
 
 abbrev pub invariant-loop-level : goal.invariant-loop-level

@@ -1,7 +1,8 @@
 use Rattle.std.proofs.Common.{ℕ, List, sym, ◌∙◌}
 use Rattle.std.specs.Prelude.{option_to_list}
-use Rattle.hot_model.specs.Values.{CellValue}
-use Rattle.hot_model.specs.Trees.{record_at, child}
+use Rattle.hot_units.specs.Values.{CellValue}
+use Rattle.hot_units.specs.Keys.{child}
+use Rattle.hot_model.specs.Trees.{record_at}
 use Rattle.local_tree.proofs.Kids.{one_more_digit}
 use Rattle.local_tree.proofs.tree.LocalTree.children.Goals as goal
 

@@ -1,6 +1,7 @@
 use Rattle.std.proofs.Common.{◌≡◌, take, flat_map}
 use Rattle.std.specs.Prelude.{option_to_list}
-use Rattle.hot_model.specs.Trees.{record_at, child, digits}
+use Rattle.hot_units.specs.Keys.{child, digits}
+use Rattle.hot_model.specs.Trees.{record_at}
 use Rattle.local_tree.proofs.tree.LocalTree.children.Given as goal
 
 abbrev pub invariant-loop-digit : goal.invariant-loop-digit

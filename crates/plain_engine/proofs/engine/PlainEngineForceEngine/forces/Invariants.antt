@@ -1,5 +1,6 @@
 use Rattle.std.proofs.Common.{◌≡◌, take, map}
-use Rattle.hot_model.specs.Trees.{mass_of, force}
+use Rattle.hot_units.specs.Bodies.{mass_of}
+use Rattle.hot_model.specs.Trees.{force}
 use Rattle.hot_model.specs.Forces.{whole}
 use Rattle.plain_engine.proofs.engine.PlainEngineForceEngine.forces.Given as goal
 

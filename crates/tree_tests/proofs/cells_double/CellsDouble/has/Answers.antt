@@ -1,6 +1,6 @@
 use Rattle.std.proofs.Common.{ℕ, sym, subst}
-use Rattle.hot_model.specs.Keys.{IsCell}
-use Rattle.hot_model.proofs.Digits.{key_is_cell}
+use Rattle.hot_units.specs.Keys.{IsCell}
+use Rattle.hot_units.proofs.Digits.{key_is_cell}
 use Rattle.tree_tests.proofs.cells_double.CellsDouble.has.Goals as goal
 
 pub covers-requires-clause-key : goal.covers-requires-clause-key

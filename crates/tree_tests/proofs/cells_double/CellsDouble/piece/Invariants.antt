@@ -1,5 +1,5 @@
 use Rattle.std.proofs.Common.{◌≡◌, eqb, filter, take}
-use Rattle.hot_model.specs.Keys.{key_of_body}
+use Rattle.hot_units.specs.Keys.{key_of_body}
 use Rattle.defer_walk.specs.Listing.{rank_by}
 use Rattle.tree_tests.proofs.cells_double.CellsDouble.piece.Given as goal
 

@@ -1,8 +1,8 @@
 use Rattle.std.proofs.Common.{◌≤◌, arith, []}
-use Rattle.hot_model.specs.Limits.{max_all_mass}
-use Rattle.hot_model.specs.Keys.{contains}
-use Rattle.hot_model.specs.Trees.{mass_of, mass_of_body}
-use Rattle.hot_model.proofs.Worlds.{sum_filter_le}
+use Rattle.hot_units.specs.Limits.{max_all_mass}
+use Rattle.hot_units.specs.Keys.{contains}
+use Rattle.hot_units.specs.Bodies.{mass_of, mass_of_body}
+use Rattle.hot_units.proofs.Bodies.{sum_filter_le}
 use Rattle.defer_walk.proofs.Listings.{good_of}
 use Rattle.tree_tests.proofs.cells_double.CellsDouble.record.Goals as goal
 

@@ -2,9 +2,9 @@ use Rattle.std.proofs.Common.{ℕ, ◌≡◌, ◌<◌, ◌≤◌, List, length, 
 use Rattle.std.specs.Prelude.{slice_get}
 use Rattle.std.proofs.lemmas.List.{take_all}
 use Rattle.std.proofs.lemmas.Option.{slice_get_past}
-use Rattle.hot_model.specs.Keys.{contains}
-use Rattle.hot_model.specs.Values.{BodyValue}
-use Rattle.hot_model.specs.World.{World, bodies_in}
+use Rattle.hot_units.specs.Values.{BodyValue}
+use Rattle.hot_units.specs.Keys.{contains}
+use Rattle.rank_model.specs.World.{World, bodies_in}
 use Rattle.tree_tests.proofs.Listings.{found}
 use Rattle.tree_tests.proofs.cells_double.CellsDoubleCells.body.Goals as goal
 

@@ -1,5 +1,5 @@
 use Rattle.std.proofs.Common.{◌≡◌, ◌≤◌, length, filter, take}
-use Rattle.hot_model.specs.Keys.{contains}
+use Rattle.hot_units.specs.Keys.{contains}
 use Rattle.tree_tests.proofs.cells_double.CellsDoubleCells.body.Given as goal
 
 abbrev pub invariant-loop-b : goal.invariant-loop-b

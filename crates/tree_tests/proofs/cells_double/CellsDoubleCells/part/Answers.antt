@@ -1,6 +1,6 @@
 use Rattle.std.proofs.Common.{◌≡◌, ◌<◌, List, length, rules, true, false}
-use Rattle.hot_model.specs.Keys.{contains}
-use Rattle.hot_model.specs.Values.{BodyValue}
+use Rattle.hot_units.specs.Values.{BodyValue}
+use Rattle.hot_units.specs.Keys.{contains}
 use Rattle.defer_walk.specs.Listing.{world_of}
 use Rattle.tree_tests.proofs.Listings.{scanned_step, scanned_skip}
 use Rattle.tree_tests.proofs.cells_double.CellsDoubleCells.part.Goals.{then-has, else-has}

@@ -1,5 +1,5 @@
 use Rattle.std.proofs.Common.{◌≤◌, filter, take}
-use Rattle.hot_model.specs.Keys.{contains}
+use Rattle.hot_units.specs.Keys.{contains}
 use Rattle.defer_walk.specs.Listing.{world_of}
 use Rattle.tree_tests.proofs.Listings.{Scanned}
 use Rattle.tree_tests.proofs.cells_double.CellsDoubleCells.part.Given as goal

@@ -1,7 +1,7 @@
 use Rattle.std.proofs.Common.{◌-◌, ◌∙◌, ℕ, List, map, length, take, drop, take_all, length-drop, arith, ap}
-use Rattle.hot_model.specs.Keys.{key_of_body}
-use Rattle.hot_model.specs.Values.{BodyValue}
-use Rattle.hot_model.specs.World.{greatest, least}
+use Rattle.hot_units.specs.Values.{BodyValue}
+use Rattle.hot_units.specs.Numbers.{greatest, least}
+use Rattle.hot_units.specs.Keys.{key_of_body}
 use Rattle.work_split.specs.Splits.{ranks_of}
 use Rattle.work_split.proofs.Lists.{starts-say, left-front, right-back}
 use Rattle.work_split.proofs.pieces.Pieces.neighbours.Goals as goal
