@@ -3,3 +3,4 @@ pub mod Pulls
 pub mod Sides
 pub mod Forces
 pub mod Cells
+pub mod Narrowing
