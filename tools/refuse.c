@@ -20,9 +20,12 @@ extern void *__libc_realloc(void *, size_t);
 static void *(*take)(size_t) = __libc_malloc;
 static void *(*take_again)(void *, size_t) = __libc_realloc;
 
-static uintptr_t low, high;  // where the code of the program lies
+enum { CALLS, REFUSED, STACK, NUMBERS = 128 };
+enum { MOST_FRAME = 1 << 20 };  // bytes
+
+static uintptr_t base, low, high;  // where the program lies, and its code
 static uint64_t refused_at;
-static int refuses_on;
+static int refuses_on, tells_stack;
 static _Atomic uint64_t *counts;
 
 // The first object is the program itself.
@@ -31,7 +34,8 @@ static int find_program(struct dl_phdr_info *info, size_t size, void *data) {
   for (int k = 0; k < info->dlpi_phnum; k++) {
     const ElfW(Phdr) *part = &info->dlpi_phdr[k];
     if (part->p_type != PT_LOAD || !(part->p_flags & PF_X)) continue;
-    low = info->dlpi_addr + part->p_vaddr;
+    base = info->dlpi_addr;
+    low = base + part->p_vaddr;
     high = low + part->p_memsz;
   }
   return 1;
@@ -84,7 +88,8 @@ __attribute__((constructor)) static void begin(void) {
   if (!at || file < 0) _exit(125);
   refused_at = strtoull(at, NULL, 10);
   refuses_on = getenv("REFUSE_ON") != NULL;
-  void *shared = mmap(NULL, 16, PROT_READ | PROT_WRITE, MAP_SHARED, file, 0);
+  tells_stack = getenv("REFUSE_STACK") != NULL;
+  void *shared = mmap(NULL, NUMBERS * sizeof *counts, PROT_READ | PROT_WRITE, MAP_SHARED, file, 0);
   if (shared == MAP_FAILED) _exit(125);
   close(file);
   dl_iterate_phdr(find_program, NULL);
@@ -92,12 +97,24 @@ __attribute__((constructor)) static void begin(void) {
   counts = shared;
 }
 
+static int is_in_program(uintptr_t place) { return place >= low && place < high; }
+
+// Each frame begins with the address of the one around it, and behind that is where its call returns to.
+static void tell_stack(void) {
+  const uintptr_t *frame = __builtin_frame_address(0), *outer;
+  for (int at = STACK; at < NUMBERS; frame = outer) {
+    if (is_in_program(frame[1])) counts[at++] = frame[1] - base;
+    outer = (const uintptr_t *)frame[0];
+    if (outer <= frame || (uintptr_t)outer - (uintptr_t)frame > MOST_FRAME) return;
+  }
+}
+
 static int is_refused(void *caller) {
-  uintptr_t at = (uintptr_t)caller;
-  if (!counts || at < low || at >= high) return 0;
-  uint64_t number = atomic_fetch_add(&counts[0], 1) + 1;
+  if (!counts || !is_in_program((uintptr_t)caller)) return 0;
+  uint64_t number = atomic_fetch_add(&counts[CALLS], 1) + 1;
   if (number != refused_at && !(refuses_on && number > refused_at)) return 0;
-  atomic_fetch_add(&counts[1], 1);
+  if (tells_stack && number == refused_at) tell_stack();
+  atomic_fetch_add(&counts[REFUSED], 1);
   errno = ENOMEM;
   return 1;
 }
