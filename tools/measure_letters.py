@@ -40,7 +40,7 @@ fn main(rt: HostRuntime) -> io::Result<()> {
 }
 """
 NAME = "letter_reader"
-CRATES = ["hot_model", "morton_key", "cell_mail"]
+CRATES = ["hot_units", "hot_model", "morton_key", "cell_mail"]
 MEGABYTE = 1 << 20
 PARTS = (4, 2, 1)
 BRANCHES, ASKS, ANSWERS = 1, 2, 3
@@ -160,7 +160,7 @@ def built(folder):
     with open(os.path.join(TOP, "crates.txt"), encoding="utf-8") as file:
         lines = [line for line in file.read().splitlines() if line.split(":")[0] in CRATES]
     with open(os.path.join(folder, "crates.txt"), "w", encoding="utf-8") as file:
-        file.write("\n".join([*lines, f"{NAME}: cell_mail hot_model"]) + "\n")
+        file.write("\n".join([*lines, f"{NAME}: cell_mail hot_model hot_units"]) + "\n")
     said = subprocess.run(["rt", "run", "--jobs", "1"], cwd=own, stdin=subprocess.DEVNULL, capture_output=True, check=False)
     program = os.path.join(own, "out", NAME)
     if not os.path.exists(program):
