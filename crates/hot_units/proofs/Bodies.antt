@@ -1,15 +1,11 @@
 -- The order of bodies is one, and what lists of bodies weigh.
-use Rattle.std.proofs.Common.{ℕ, suc, ◌≡◌, ◌+◌, ◌*◌, ◌^◌, ◌≤◌, Bool, true, false, cond, List, [], ◌∷◌, length, filter, sum_by, refl, arith}
+use Rattle.std.proofs.Common.{ℕ, suc, ◌≡◌, ◌+◌, ◌≤◌, Bool, true, false, cond, List, [], ◌∷◌, filter, sum_by, refl, arith}
 use Rattle.std.specs.Cmp.{IsStrictWeakOrder}
 use Rattle.std.proofs.lemmas.Bool.Decides.{nat_tests}
 use Rattle.std.proofs.lemmas.List.Kept.{IsSortedBy-filter}
-use Rattle.std.proofs.lemmas.List.Sums.{sum_by-cons, sum_by-le}
-use Rattle.std.specs.Prelude.{All}
-use Rattle.std.proofs.lemmas.List.Elements.{All-weaker}
-use Rattle.hot_units.specs.Limits.{max_bodies}
+use Rattle.std.proofs.lemmas.List.Sums.{sum_by-cons}
 use Rattle.hot_units.specs.Values.{BodyValue}
 use Rattle.hot_units.specs.Order.{before, IsInOrder}
-use Rattle.hot_units.specs.Bodies.{mass_of, mass_of_body, IsBody}
 
 -- the order of bodies is one
 pub before_orders : IsStrictWeakOrder before
@@ -48,9 +44,3 @@ sum_filter_more f p q h (x ∷ xs) = by_tests (filter p xs) (filter q xs) (sum_f
     by_tests ys zs l true false k = absurd (let e : false ≡ true = k refl in cc)
     by_tests ys zs l false true k = omega (arith, l, sum_by-cons f x zs)
     by_tests ys zs l false false k = l
-
--- so many bodies within their limits have at most 2^40 of mass
-pub light_of_few : (bodies : List BodyValue) → All IsBody bodies → length bodies ≤ max_bodies → mass_of bodies ≤ 2 ^ 40
-light_of_few bodies h k =
-    let p : mass_of bodies ≤ length bodies * 2 ^ 22 = sum_by-le mass_of_body (2 ^ 22) bodies (All-weaker IsBody (λ (b : BodyValue). b.mass ≤ 2 ^ 22) (λ b i. i.light) bodies h) in
-    omega (arith, p, k)

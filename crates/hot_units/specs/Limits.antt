@@ -11,11 +11,15 @@ max_level = 21
 
 -- at most so many bodies
 abbrev pub max_bodies : ℕ
-max_bodies = 262144
+max_bodies = 1048576
+
+-- at most so many generated bodies
+abbrev pub max_generated : ℕ
+max_generated = 262144
 
 -- the largest mass of one body
 abbrev pub max_body_mass : ℕ
-max_body_mass = 2 ^ 22
+max_body_mass = 2 ^ 32 - 1
 
 -- the largest work weight of one body
 abbrev pub max_work : ℕ
@@ -52,3 +56,7 @@ max_columns = 64
 -- the longest row of a body file, in bytes
 abbrev pub max_row_bytes : ℕ
 max_row_bytes = 1024
+
+-- the most body files of a run
+abbrev pub max_files : ℕ
+max_files = 16

@@ -1,12 +1,12 @@
 ghost use Rattle.std.specs.Prelude.{◌≡◌, ◌<◌, ◌≤◌, ◌^◌, ◌↔◌, IsSome, IfSome};
-ghost use Rattle.hot_units.specs.Limits.{fine_bits, max_body_mass};
+ghost use Rattle.hot_units.specs.Limits.{fine_bits};
 ghost use Rattle.hot_units.specs.Keys as keys;
 
-use crate::limits::{FINE_BITS, MAX_BODY_MASS, MAX_LEVEL};
+use crate::limits::{FINE_BITS, MAX_LEVEL};
 use crate::spread::spread_bits;
 use std::marker::Model;
 
-/// A body: its place in fine units (each coordinate below 2^29), its mass (1 to 4,194,304), its row
+/// A body: its place in fine units (each coordinate below 2^29), its mass (1 to 4,294,967,295), its row
 /// in the file, and the Morton key of its place (Warren and Salmon, 1993).
 ///
 /// Clauses see all but the key, which the place determines.
@@ -59,16 +59,15 @@ pub fn place_key(x: u32, y: u32, z: u32) -> u64
 }
 
 /// The body at a place in fine units. None exactly where a coordinate is 2^29 or more, or the mass
-/// is not 1 to 4,194,304. It takes no memory.
+/// is 0. It takes no memory.
 pub fn body_of(x: u32, y: u32, z: u32, mass: u32, row: u32) -> Option<Body>
     ensures in_range { IsSome result
-        ↔ ((x < 2 ^ fine_bits) × (y < 2 ^ fine_bits) × (z < 2 ^ fine_bits) × (1 ≤ mass)
-        × (mass ≤ max_body_mass)) }
+        ↔ ((x < 2 ^ fine_bits) × (y < 2 ^ fine_bits) × (z < 2 ^ fine_bits) × (1 ≤ mass)) }
     ensures value { IfSome result
         (λ b. b ≡ record { x = x; y = y; z = z; mass = mass; row = row }) }
 {
     let end = 1 << FINE_BITS;
-    if x < end && y < end && z < end && 1 <= mass && mass <= MAX_BODY_MASS {
+    if x < end && y < end && z < end && mass > 0 {
         let key = place_key(x, y, z);
         Some(Body {
             x,

@@ -7,10 +7,13 @@ pub const FINE_BITS: u32 = 29;
 pub const MAX_LEVEL: u32 = 21;
 
 /// At most so many bodies.
-pub const MAX_BODIES: u32 = 262_144;
+pub const MAX_BODIES: u32 = 1_048_576;
+
+/// At most so many generated bodies.
+pub const MAX_GENERATED: u32 = 262_144;
 
 /// The largest mass of one body.
-pub const MAX_BODY_MASS: u32 = 4_194_304;
+pub const MAX_BODY_MASS: u32 = 4_294_967_295;
 
 /// The largest work weight of one body.
 pub const MAX_WORK: u32 = 4_294_967_295;
@@ -38,3 +41,6 @@ pub const MAX_COLUMNS: usize = 64;
 
 /// The longest row of a body file, in bytes.
 pub const MAX_ROW_BYTES: u32 = 1024;
+
+/// The most body files of a run.
+pub const MAX_FILES: usize = 16;
