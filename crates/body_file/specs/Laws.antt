@@ -1,9 +1,8 @@
 -- The law of files.
-use Rattle.std.specs.Prelude.{◌≡◌, ℕ, true, List, None}
+use Rattle.std.specs.Prelude.{◌≡◌, ℕ, List, [], ◌∷◌, None}
 use Rattle.body_set.specs.Sets.{SetValue}
-use Rattle.body_file.specs.Faults.{decided}
-use Rattle.body_file.specs.Files.{HasBodies}
+use Rattle.body_file.specs.Files.{fault_of, HasBodies}
 
--- a file without a fault has bodies
-abbrev pub HasVerdict : Type 0
-HasVerdict = (bytes : List ℕ) → decided true bytes ≡ None → (set : SetValue) × HasBodies bytes set
+-- files without a fault have bodies
+abbrev pub HaveVerdicts : Type 0
+HaveVerdicts = (file : List ℕ) (files : List (List ℕ)) → fault_of (file ∷ files) ≡ None → (set : SetValue) × HasBodies (file ∷ files) set

@@ -1,7 +1,7 @@
-//! A law of all files.
+//! A law of all lists of files.
 ghost use Rattle.body_file.specs.Laws as laws;
 
-/// Each file has a verdict: a fault, or bodies.
+/// Each list of files, with at least one, has a verdict: a fault, or bodies.
 pub fn files_have_verdicts()
-    ensures verdict { laws.HasVerdict }
+    ensures verdict { laws.HaveVerdicts }
 {}
