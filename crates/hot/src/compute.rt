@@ -1,6 +1,6 @@
 // Runs over ranks, and what is printed of them.
 ghost use Rattle.std.specs.Prelude.{◌≡◌, ◌≤◌, ◌==◌, ℕ, List, [], Some, All, IfOk};
-ghost use Rattle.hot_units.specs.Limits.{max_bodies};
+ghost use Rattle.hot_units.specs.Limits.{max_generated};
 ghost use Rattle.hot_units.specs.Bodies.{RowsCount};
 ghost use Rattle.sdf_rows.specs.Columns.{Is64Bits};
 ghost use Rattle.body_file.specs.Files.{HasBodies};
@@ -34,7 +34,7 @@ struct Ran {
 }
 
 /// How the walk of a run is shared out.
-fn sharing_of(job: &Job<'_>) -> Sharing
+fn sharing_of(job: &Job) -> Sharing
     ensures ranks { result.ranks ≡ job.now.ranks }
     ensures leaf { result.leaf ≡ job.now.leaf }
     ensures mail { result.mail ≡ job.now.mail }
@@ -47,7 +47,7 @@ fn sharing_of(job: &Job<'_>) -> Sharing
 }
 
 /// The visit of a run.
-fn visit_of(job: &Job<'_>) -> ForceVisit
+fn visit_of(job: &Job) -> ForceVisit
     ensures value { result
         ≡ record { ratio = job.now.ratio; eps = job.now.eps; second = job.now.moments == 2 } }
 {
@@ -64,7 +64,7 @@ fn visit_of(job: &Job<'_>) -> ForceVisit
 fn walk_job<R: Threads + Sync, M: Wire, G: Gate>(
     rt: &R,
     alloc: Global,
-    job: &Job<'_>,
+    job: &Job,
     ordered: &Ordered,
     wire: &mut M,
     gate: &G,
@@ -82,7 +82,7 @@ fn walk_job<R: Threads + Sync, M: Wire, G: Gate>(
 /// The report of a walk, where it is asked for.
 fn report_if<M: Wire>(
     alloc: Global,
-    job: &Job<'_>,
+    job: &Job,
     ordered: &Ordered,
     found: &Found<Acc3>,
     wire: &M,
@@ -104,7 +104,7 @@ fn report_if<M: Wire>(
 fn compute_run<R: Threads + Sync, M: Wire, G: Gate>(
     rt: &R,
     alloc: Global,
-    job: &Job<'_>,
+    job: &Job,
     set: BodySet,
     shows: bool,
     wire: &mut M,
@@ -128,18 +128,18 @@ fn compute_run<R: Threads + Sync, M: Wire, G: Gate>(
     })
 }
 
-/// The forces on the bodies of a file, by a run over ranks. They are put into the order of the
-/// file.
+/// The forces on the bodies of files, by a run over ranks. They are put into the order of the
+/// files.
 pub fn compute_forces<R: Threads + Sync, M: Wire, G: Gate>(
     rt: &R,
     alloc: Global,
-    job: &Job<'_>,
+    job: &Job,
     set: BodySet,
     wire: &mut M,
     gate: &G,
 ) -> Result<Forces, AllocError>
     requires named { All Is64Bits set.idents }
-    requires of_a_file { (bytes : List ℕ) × HasBodies bytes set }
+    requires of_files { (files : List (List ℕ)) × HasBodies files set }
     requires quiet { (M.desk wire.old).pending ≡ [] }
     ensures computed { (wu : WireUse) × Wired M.desk wire.old wire.new wu
         × ComputeLeaves (Some (job_value job.now)) set wu result
@@ -160,11 +160,11 @@ pub fn compute_sample<R: Threads + Sync, M: Wire, G: Gate>(
     alloc: Global,
     bodies: u32,
     seed: u64,
-    job: &Job<'_>,
+    job: &Job,
     wire: &mut M,
     gate: &G,
 ) -> Result<Sample, AllocError>
-    requires few { bodies ≤ max_bodies }
+    requires few { bodies ≤ max_generated }
     requires quiet { (M.desk wire.old).pending ≡ [] }
     ensures computed { (wu : WireUse) × Wired M.desk wire.old wire.new wu
         × ComputeLeaves (Some (job_value job.now)) (made_set bodies seed) wu result
