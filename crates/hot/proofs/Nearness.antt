@@ -3,7 +3,6 @@ use Rattle.std.proofs.Common.{◌≡◌, ℕ, ◌<◌, ◌≤◌, Bool, true, fa
 use Rattle.std.specs.Option.{unwrap_or}
 use Rattle.std.proofs.lemmas.Bool.{leb-true}
 use Rattle.std.proofs.lemmas.List.{length-map, get_or-map}
-use Rattle.hot_io.specs.Reading.{Reading, unread, unopened, unfinished, ended, broken}
 use Rattle.hot_io.specs.Writing.{IsWhole}
 use Rattle.hot_units.specs.Limits.{max_softening}
 use Rattle.hot_units.specs.Values.{BodyValue, Acc3Value}
@@ -26,7 +25,7 @@ use Rattle.hot_words.specs.Words.{command_by, unless_fault, command_behind, comm
 use Rattle.hot.specs.declared.status.Status.TheVariants.{Done}
 use Rattle.hot.specs.Runs.{settings_of, log_of}
 use Rattle.hot.specs.Texts.{forces_of, output_text}
-use Rattle.hot.specs.Call.{Run, AreBodies, read_whole, IsAnswered}
+use Rattle.hot.specs.Call.{Run, AreBodies, files_in, IsAnswered}
 use Rattle.hot.specs.Nearness.{IsNearNewton, PrintsNear}
 use Rattle.hot.proofs.CallEndings.{Ending, wrote, refused, faulty, broke, hungry, cut_err, cut_out, ending}
 
@@ -57,7 +56,7 @@ softening_from (Some word) = or_default (softening_of word) (within_from 1 max_s
 -- the softening that words give, and 1 where they give none
 abbrev softening_in : Result CommandValue WordFault → ℕ
 softening_in (Ok (forces job)) = job.eps
-softening_in (Ok (split ranks file)) = 1
+softening_in (Ok (split ranks first files)) = 1
 softening_in (Ok (make bodies seed)) = 1
 softening_in (Ok (sample bodies seed job)) = 1
 softening_in (Err fault) = 1
@@ -82,13 +81,6 @@ softens words job e = subst (λ r. 1 ≤ softening_in r) e (by_words words)
 
 -- ---- what was printed
 
-ended_of : (input : Reading) (bytes : List ℕ) → read_whole input ≡ Some bytes → input ≡ ended bytes
-ended_of unread bytes e = absurd cc
-ended_of unopened bytes e = absurd cc
-ended_of (unfinished t) bytes e = absurd cc
-ended_of (ended t) bytes e = let same : t ≡ bytes = cc in ap ended same
-ended_of (broken t) bytes e = absurd cc
-
 -- the force on a body is near
 force_near : (job : JobValue) (bodies : List BodyValue) (b : BodyValue) → job.ratio.num ≡ 0 → 1 ≤ job.eps → IsNearNewton job.eps bodies b (whole (mass_of bodies) (force (settings_of job) bodies b))
 force_near job bodies b e h = record {
@@ -103,12 +95,12 @@ at_place job bodies e h i b acc l =
     let f : BodyValue → Acc3Value = λ o. whole (mass_of bodies) (force (settings_of job) bodies o) in
     subst (λ (v : Acc3Value). IsNearNewton job.eps bodies (get_or bodies i b) v) (sym (get_or-map f bodies i b acc l)) (force_near job bodies (get_or bodies i b) e h)
 
-printed : (run : Run) (job : JobValue) (set : SetValue) → AreBodies (forces job) (read_whole run.input) set → IsWhole (output_text (forces job) set (log_of run.wire)) run.out → job.ratio.num ≡ 0 → 1 ≤ job.eps → PrintsNear run job
+printed : (run : Run) (job : JobValue) (set : SetValue) → AreBodies (forces job) (files_in run) set → IsWhole (output_text (forces job) set (log_of run.wire)) run.out → job.ratio.num ≡ 0 → 1 ≤ job.eps → PrintsNear run job
 printed run job set are out e h = record {
-  bytes = are.0;
+  files = are.0;
   set = set;
   accs = forces_of job set.bodies;
-  read = ended_of run.input are.0 are.1;
+  read = are.1;
   bodies = are.2;
   printed = out;
   all = length-map set.bodies (λ b. whole (mass_of set.bodies) (force (settings_of job) set.bodies b));
@@ -120,7 +112,7 @@ ends_near run job (wrote s command set comes out err) asked e =
     let given = comes.0.asked in
     let same : command ≡ forces job = cc in
     printed run job set
-    (subst (λ (c : CommandValue). AreBodies c (read_whole run.input) set) same comes.0.bodies)
+    (subst (λ (c : CommandValue). AreBodies c (files_in run) set) same comes.0.bodies)
     (subst (λ (c : CommandValue). IsWhole (output_text c set (log_of run.wire)) run.out) same out)
     e (softens run.words job asked)
 ends_near run job (refused s fault comes out err) asked e = absurd cc
