@@ -48,7 +48,7 @@ fn refused_rows(rt: HostRuntime) {
             WORDS,
             MASSES,
             b"1",
-            &[0, 0, 0, 4_194_305],
+            &[0, 0, 0, -1],
             Status::Input,
             b"",
             b"hot: B4 row 0 mass out of range\n",
@@ -101,11 +101,11 @@ fn refused_rows(rt: HostRuntime) {
         (
             WORDS,
             PLACES,
-            b"262145",
+            b"1048577",
             &[],
             Status::Input,
             b"",
-            b"hot: H13 too many rows 262145\n",
+            b"hot: H13 too many rows 1048577\n",
         ),
     ];
     check_files(&rt, alloc, &cases);
