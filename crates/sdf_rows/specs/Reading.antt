@@ -7,10 +7,11 @@ use Rattle.sdf_rows.specs.declared.raw_row.RowFault.TheVariants.{Trailing}
 use Rattle.sdf_rows.specs.declared.raw_row.RowStep.{RowStep}
 use Rattle.sdf_rows.specs.Rows.{row_number, row_from, rows_in, is_beyond_at}
 
--- the layout, how many rows were given, the bytes of the row that is not whole, and whether a byte came behind the
--- last row
+-- the layout, the number of the first row, how many rows were given, the bytes of the row that is not whole, and
+-- whether a byte came behind the last row
 pub record RowsValue : Type 0 where
   pub layout : LayoutValue
+  pub first : ℕ
   pub given : ℕ
   pub held : List ℕ
   pub beyond : Bool
