@@ -113,7 +113,7 @@ fn first_file_fault(name: CommandName, words: &WordList, first: usize) -> Option
                 place,
             });
         }
-        has_input = has_input || names_input(word);
+        has_input |= names_input(word);
     }
     None
 }

@@ -1,6 +1,7 @@
 // The words by their places.
 ghost use Rattle.std.specs.Prelude.{◌≡◌, ◌<◌, ◌+◌, not, ◌&&◌, length, IfSome, MatchOption, Some};
 ghost use Rattle.std.specs.Prelude.{None};
+ghost use Rattle.std.specs.Str.{bytes_eq};
 ghost use Rattle.hot_words.specs.Places.{word_of, begins_option, stands_as_value};
 ghost use Rattle.hot_words.specs.Places.{place_before, files_place};
 ghost use Rattle.hot_words.specs.Places.{value_of, is_last};
@@ -47,6 +48,13 @@ pub fn may_begin_files(words: &WordList, place: usize, is_value: bool) -> bool
     !is_value && !has_dashes(word_at(words, place))
 }
 
+/// Whether a place holds the option, where it is known whether it holds a value.
+fn holds_option(words: &WordList, place: usize, option: &str, is_value: bool) -> bool
+    ensures { result ≡ (bytes_eq (word_of words.now place) option.now && not is_value) }
+{
+    word_at(words, place) == option && !is_value
+}
+
 /// The first place before `end` that holds the option.
 pub fn find_option(name: CommandName, words: &WordList, option: &str, end: usize) -> Option<usize>
     ensures first { result ≡ place_before name words.now option.now end }
@@ -54,7 +62,7 @@ pub fn find_option(name: CommandName, words: &WordList, option: &str, end: usize
 {
     let mut is_value = false;
     for place in 0..end {
-        if !is_value && word_at(words, place) == option {
+        if holds_option(words, place, option, is_value) {
             return Some(place);
         }
         is_value = value_follows(name, words, place, is_value);
