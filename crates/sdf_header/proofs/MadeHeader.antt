@@ -261,7 +261,7 @@ two_parts ds rows = ap text_1 (sym (append_assoc ds (93 ∷ 59 ∷ 10 ∷ []) (l
 text_len : (ds : List ℕ) → length (text_1 (ds ++ 93 ∷ 59 ∷ 10 ∷ [])) ≡ 88 + length (((codes "}[" ++ ds) ++ 93 ∷ []) ++ 59 ∷ []) + 1
 text_len ds = omega (arith, length-append ds (93 ∷ 59 ∷ 10 ∷ []), length-append ((codes "}[" ++ ds) ++ 93 ∷ []) (59 ∷ []), length-append (codes "}[" ++ ds) (93 ∷ []), length-append (codes "}[") ds)
 
-made_extent : (ds rows : List ℕ) → AllAre ds → length ds ≤ 6 → extent (text_1 (ds ++ 93 ∷ 59 ∷ 10 ∷ last_line rows)) ≡ Ends (length (text_1 (ds ++ 93 ∷ 59 ∷ 10 ∷ []))) (length (text_1 (ds ++ 93 ∷ 59 ∷ 10 ∷ [])) + 9 + 1)
+made_extent : (ds rows : List ℕ) → AllAre ds → length ds ≤ 7 → extent (text_1 (ds ++ 93 ∷ 59 ∷ 10 ∷ last_line rows)) ≡ Ends (length (text_1 (ds ++ 93 ∷ 59 ∷ 10 ∷ []))) (length (text_1 (ds ++ 93 ∷ 59 ∷ 10 ∷ [])) + 9 + 1)
 unfolding extent
 made_extent ds rows e le =
     let len = text_len ds in
@@ -274,7 +274,7 @@ make_verdict : (n : ℕ) (rows : List ℕ) → n ≤ max_bodies → verdict (tex
 unfolding verdict judged
 make_verdict n rows le =
     let lt : n < 2 ^ 64 = omega arith in
-    let short = length-decimal-le 6 n (omega arith) (omega arith) lt in
+    let short = length-decimal-le 7 n (omega arith) (omega arith) lt in
     let front_is = ap (take (length (text_1 (printed n ++ 93 ∷ 59 ∷ 10 ∷ [])))) (two_parts (printed n) rows) ∙ take-append_seam (text_1 (printed n ++ 93 ∷ 59 ∷ 10 ∷ [])) (last_line rows) in
     rw (made_extent (printed n) rows (digits_decimal own n lt) short, front_is, make_reads n lt) refl
 

@@ -1,13 +1,13 @@
 -- How the bytes end that a reader of rows was given.
-use Rattle.std.proofs.Common.{◌≡◌, ℕ, ◌-◌, ◌*◌, ◌/◌, ◌<◌, ◌≤◌, true, false, List, length, Option, Some, None, is_some, Ok, Err, refl, arith}
+use Rattle.std.proofs.Common.{◌≡◌, ℕ, ◌+◌, ◌-◌, ◌*◌, ◌/◌, ◌<◌, ◌≤◌, true, false, List, length, Option, Some, None, is_some, Ok, Err, refl, arith}
 use Rattle.std.proofs.lemmas.Bool.{leb-false, leb-true, ltb-true, ltb-false, lt-ltb, le-ltb}
 use Rattle.std.proofs.Math.Nat.{min-eq_right}
 use Rattle.sdf_header.specs.Layouts.{LayoutValue}
 use Rattle.sdf_rows.specs.declared.raw_row.RowFault.TheVariants.{Truncated, Trailing}
-use Rattle.sdf_rows.specs.Rows.{at_most, is_cut_at, is_beyond_at, ending}
-use Rattle.sdf_rows.specs.Reading.{is_full_at, is_full, part_behind, reader_behind}
+use Rattle.sdf_rows.specs.Rows.{at_most, row_number, is_cut_at, is_beyond_at, ending_from}
+use Rattle.sdf_rows.specs.Reading.{is_full_at, is_full, part_behind, reader_from}
 use Rattle.sdf_rows.proofs.Places.{rows_lie, rows_there, rows_lack, le_rows}
-use Rattle.sdf_rows.proofs.Steps.{part_length, all_counted}
+use Rattle.sdf_rows.proofs.Steps.{part_length, all_counted, number_from}
 
 -- bytes too many are no cut row
 pub beyond_uncut : (count : Option ℕ) (w len : ℕ) → is_beyond_at count w len ≡ true → is_cut_at count w len ≡ false
@@ -55,34 +55,36 @@ free_within (Some n) w len free = absurd (cc free)
 -- ---- the answers at the end
 
 -- where a byte came behind the last stated row, the rows end with bytes too many
-pub ends_beyond : (l : LayoutValue) (bytes : List ℕ) → (reader_behind l bytes).beyond ≡ true → ending l bytes ≡ Err Trailing
-ends_beyond l bytes beyond = rw (beyond_uncut l.count l.width (length bytes) beyond, beyond) refl
+pub ends_beyond : (l : LayoutValue) (first : ℕ) (bytes : List ℕ) → (reader_from l first bytes).beyond ≡ true → ending_from l first bytes ≡ Err Trailing
+ends_beyond l first bytes beyond = rw (beyond_uncut l.count l.width (length bytes) beyond, beyond) refl
 
 -- all stated rows and no byte more end well, with the number of rows given
-pub ends_full : (l : LayoutValue) (bytes : List ℕ) → 1 ≤ l.width → is_full l bytes ≡ true → (reader_behind l bytes).beyond ≡ false → ending l bytes ≡ Ok (reader_behind l bytes).given
-ends_full l bytes some full within =
+pub ends_full : (l : LayoutValue) (first : ℕ) (bytes : List ℕ) → 1 ≤ l.width → is_full l bytes ≡ true → (reader_from l first bytes).beyond ≡ false → ending_from l first bytes ≡ Ok (reader_from l first bytes).given
+ends_full l first bytes some full within =
     let uncut = full_uncut l.count l.width (length bytes) full in
     let exact = full_exact l.count l.width (length bytes) some full within in
     rw (uncut, within, exact) refl
 
 -- while a stated row lacks, the rows end with the next one cut short
-pub ends_counted : (l : LayoutValue) (bytes : List ℕ) → 1 ≤ l.width → is_some l.count ≡ true → is_full l bytes ≡ false → ending l bytes ≡ Err (Truncated (reader_behind l bytes).given)
-ends_counted l bytes some counted lacks =
+pub ends_counted : (l : LayoutValue) (first : ℕ) (bytes : List ℕ) → 1 ≤ l.width → is_some l.count ≡ true → is_full l bytes ≡ false → ending_from l first bytes ≡ Err (Truncated (row_number (first + (reader_from l first bytes).given)))
+ends_counted l first bytes some counted lacks =
     let cut = lacks_cut l.count l.width (length bytes) some counted lacks in
     let exact = all_counted l.count l.width (length bytes) lacks in
-    rw (cut, exact) refl
+    let number = number_from first (length bytes / l.width) in
+    rw (cut, exact, number) refl
 
 -- without a stated number, bytes behind the last whole row are a row that is cut short
-pub ends_part : (l : LayoutValue) (bytes : List ℕ) → is_some l.count ≡ false → is_full l bytes ≡ false → 1 ≤ length (part_behind l bytes) → ending l bytes ≡ Err (Truncated (reader_behind l bytes).given)
-ends_part l bytes free lacks part =
+pub ends_part : (l : LayoutValue) (first : ℕ) (bytes : List ℕ) → is_some l.count ≡ false → is_full l bytes ≡ false → 1 ≤ length (part_behind l bytes) → ending_from l first bytes ≡ Err (Truncated (row_number (first + (reader_from l first bytes).given)))
+ends_part l first bytes free lacks part =
     let held = part_length l bytes in
     let cut = part_cut l.count l.width (length bytes) free (omega arith) in
     let exact = all_counted l.count l.width (length bytes) lacks in
-    rw (cut, exact) refl
+    let number = number_from first (length bytes / l.width) in
+    rw (cut, exact, number) refl
 
 -- without a stated number, bytes that end with a row end well, with the rows given
-pub ends_whole : (l : LayoutValue) (bytes : List ℕ) → is_some l.count ≡ false → is_full l bytes ≡ false → length (part_behind l bytes) ≡ 0 → ending l bytes ≡ Ok (reader_behind l bytes).given
-ends_whole l bytes free lacks whole =
+pub ends_whole : (l : LayoutValue) (first : ℕ) (bytes : List ℕ) → is_some l.count ≡ false → is_full l bytes ≡ false → length (part_behind l bytes) ≡ 0 → ending_from l first bytes ≡ Ok (reader_from l first bytes).given
+ends_whole l first bytes free lacks whole =
     let held = part_length l bytes in
     let uncut = whole_uncut l.count l.width (length bytes) free (omega arith) in
     let within = free_within l.count l.width (length bytes) free in

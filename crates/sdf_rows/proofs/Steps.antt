@@ -5,8 +5,8 @@ use Rattle.std.proofs.lemmas.Bool.{leb-false, leb-true, le-leb, lt-ltb, le-ltb}
 use Rattle.std.proofs.Math.Seq.{take-append-add}
 use Rattle.std.proofs.Math.Nat.{min-eq_left, min-eq_right, min-le_right, mul-le-mul_right}
 use Rattle.sdf_header.specs.Layouts.{LayoutValue}
-use Rattle.sdf_rows.specs.Rows.{row_of, row_number, row_bytes, first_rows, at_most, rows, is_beyond_at}
-use Rattle.sdf_rows.specs.Reading.{RowsValue, is_full_at, is_full, part_behind, reader_behind, IsBehind}
+use Rattle.sdf_rows.specs.Rows.{row_of, row_number, row_bytes, first_rows_from, at_most, rows_from, is_beyond_at}
+use Rattle.sdf_rows.specs.Reading.{RowsValue, is_full_at, is_full, part_behind, reader_from, IsBehind}
 use Rattle.sdf_rows.proofs.Places.{same_rows, one_row_more, more_rows, rows_lie, rows_there}
 
 -- ---- the stated number
@@ -69,12 +69,12 @@ row_bytes_same l bytes more k there =
     ap (take l.width) (drop-append-le (k * l.width) bytes more begins) ∙ take-append-le l.width (drop (k * l.width) bytes) more fits
 
 -- the first rows, where they are there, are the same with more bytes
-pub first_rows_same : (l : LayoutValue) (bytes more : List ℕ) (n : ℕ) → n * l.width ≤ length bytes → first_rows l (bytes ++ more) n ≡ first_rows l bytes n
-first_rows_same l bytes more zero there = refl
-first_rows_same l bytes more (suc n) there =
+pub first_rows_same : (l : LayoutValue) (first : ℕ) (bytes more : List ℕ) (n : ℕ) → n * l.width ≤ length bytes → first_rows_from l first (bytes ++ more) n ≡ first_rows_from l first bytes n
+first_rows_same l first bytes more zero there = refl
+first_rows_same l first bytes more (suc n) there =
     let next : suc n * l.width ≡ n * l.width + l.width = omega arith in
     let turned : (n + 1) * l.width ≡ n * l.width + l.width = omega arith in
-    let before = first_rows_same l bytes more n (omega arith) in
+    let before = first_rows_same l first bytes more n (omega arith) in
     let same = row_bytes_same l bytes more n (omega arith) in
     rw (before, same) refl
 
@@ -106,6 +106,10 @@ counted_lie count w len =
 pub number_step : (k m : ℕ) → min (min k m + 1) m ≡ min (k + 1) m
 number_step k m = omega arith
 
+-- a number that goes on from a count of rows is that of all of them
+pub number_from : (first k : ℕ) → row_number (first + row_number k) ≡ row_number (first + k)
+number_from first k = omega arith
+
 -- what is empty stays so, whether it is left out or not
 pub either_way : (b : Bool) (xs : List ℕ) → xs ≡ [] → (if b then [] else xs) ≡ []
 either_way true xs none = refl
@@ -114,8 +118,8 @@ either_way false xs none = none
 -- ---- the three steps
 
 -- a byte behind the last stated row
-pub full_step : (l : LayoutValue) (bytes piece : List ℕ) → 1 ≤ l.width → 1 ≤ length piece → is_full l bytes ≡ true → record (reader_behind l bytes) { beyond = true } ≡ reader_behind l (bytes ++ piece)
-full_step l bytes piece some more full =
+pub full_step : (l : LayoutValue) (first : ℕ) (bytes piece : List ℕ) → 1 ≤ l.width → 1 ≤ length piece → is_full l bytes ≡ true → record (reader_from l first bytes) { beyond = true } ≡ reader_from l first (bytes ++ piece)
+full_step l first bytes piece some more full =
     let sum = length-append bytes piece in
     let still = still_full l.count l.width (length bytes) (length piece) some full in
     let count = full_count l.count l.width (length bytes) (length piece) some full in
@@ -123,17 +127,17 @@ full_step l bytes piece some more full =
     rw (sum, full, still, count, beyond) refl
 
 -- behind all stated rows more bytes give no row
-pub full_rows : (l : LayoutValue) (bytes piece : List ℕ) → 1 ≤ l.width → is_full l bytes ≡ true → rows l (bytes ++ piece) ≡ rows l bytes
-full_rows l bytes piece some full =
+pub full_rows : (l : LayoutValue) (first : ℕ) (bytes piece : List ℕ) → 1 ≤ l.width → is_full l bytes ≡ true → rows_from l first (bytes ++ piece) ≡ rows_from l first bytes
+full_rows l first bytes piece some full =
     let sum = length-append bytes piece in
     let count = full_count l.count l.width (length bytes) (length piece) some full in
     let there = counted_lie l.count l.width (length bytes) in
-    let same = first_rows_same l bytes piece (at_most l.count (length bytes / l.width)) there in
+    let same = first_rows_same l first bytes piece (at_most l.count (length bytes / l.width)) there in
     rw (sum, count) same
 
 -- bytes that do not end the row
-pub kept_step : (l : LayoutValue) (bytes piece : List ℕ) → is_full l bytes ≡ false → length (part_behind l bytes) + length piece < l.width → record (reader_behind l bytes) { held = (reader_behind l bytes).held ++ piece } ≡ reader_behind l (bytes ++ piece)
-kept_step l bytes piece lacks short =
+pub kept_step : (l : LayoutValue) (first : ℕ) (bytes piece : List ℕ) → is_full l bytes ≡ false → length (part_behind l bytes) + length piece < l.width → record (reader_from l first bytes) { held = (reader_from l first bytes).held ++ piece } ≡ reader_from l first (bytes ++ piece)
+kept_step l first bytes piece lacks short =
     let sum = length-append bytes piece in
     let part = part_length l bytes in
     let same = same_rows (length bytes) (length piece) l.width (omega arith) in
@@ -146,18 +150,18 @@ kept_step l bytes piece lacks short =
     rw (sum, still, lacks, before, after, same, joined) refl
 
 -- bytes that do not end the row give no row
-pub kept_rows : (l : LayoutValue) (bytes piece : List ℕ) → length (part_behind l bytes) + length piece < l.width → rows l (bytes ++ piece) ≡ rows l bytes
-kept_rows l bytes piece short =
+pub kept_rows : (l : LayoutValue) (first : ℕ) (bytes piece : List ℕ) → length (part_behind l bytes) + length piece < l.width → rows_from l first (bytes ++ piece) ≡ rows_from l first bytes
+kept_rows l first bytes piece short =
     let sum = length-append bytes piece in
     let part = part_length l bytes in
     let quotient = same_rows (length bytes) (length piece) l.width (omega arith) in
     let there = counted_lie l.count l.width (length bytes) in
-    let same = first_rows_same l bytes piece (at_most l.count (length bytes / l.width)) there in
+    let same = first_rows_same l first bytes piece (at_most l.count (length bytes / l.width)) there in
     rw (sum, quotient) same
 
 -- bytes that end the row
-pub ended_step : (l : LayoutValue) (bytes rest : List ℕ) → 1 ≤ l.width → is_full l bytes ≡ false → length (part_behind l bytes) + length rest ≡ l.width → record (reader_behind l bytes) { given = min ((reader_behind l bytes).given + 1) (2 ^ 64 - 1); held = [] } ≡ reader_behind l (bytes ++ rest)
-ended_step l bytes rest some lacks ends =
+pub ended_step : (l : LayoutValue) (first : ℕ) (bytes rest : List ℕ) → 1 ≤ l.width → is_full l bytes ≡ false → length (part_behind l bytes) + length rest ≡ l.width → record (reader_from l first bytes) { given = min ((reader_from l first bytes).given + 1) (2 ^ 64 - 1); held = [] } ≡ reader_from l first (bytes ++ rest)
+ended_step l first bytes rest some lacks ends =
     let sum = length-append bytes rest in
     let part = part_length l bytes in
     let there = rows_lie (length bytes) l.width in
@@ -181,26 +185,28 @@ ended_bytes l bytes piece wanted ends =
     ∙ take-append-add (part_behind l bytes) piece wanted
 
 -- bytes that end the row give that row behind those before
-pub ended_rows : (l : LayoutValue) (bytes rest : List ℕ) → 1 ≤ l.width → is_full l bytes ≡ false → length (part_behind l bytes) + length rest ≡ l.width → rows l (bytes ++ rest) ≡ rows l bytes ++ row_of l (row_number (length bytes / l.width)) (part_behind l bytes ++ rest) ∷ []
-ended_rows l bytes rest some lacks ends =
+pub ended_rows : (l : LayoutValue) (first : ℕ) (bytes rest : List ℕ) → 1 ≤ l.width → is_full l bytes ≡ false → length (part_behind l bytes) + length rest ≡ l.width → rows_from l first (bytes ++ rest) ≡ rows_from l first bytes ++ row_of l (row_number (first + length bytes / l.width)) (part_behind l bytes ++ rest) ∷ []
+ended_rows l first bytes rest some lacks ends =
     let sum = length-append bytes rest in
     let part = part_length l bytes in
     let there = rows_lie (length bytes) l.width in
     let more = one_row_more (length bytes) (length rest) l.width some (omega arith) in
     let counted = all_counted l.count l.width (length bytes) lacks in
     let counted' = next_counted l.count l.width (length bytes) lacks in
-    let same = first_rows_same l bytes rest (length bytes / l.width) there in
+    let same = first_rows_same l first bytes rest (length bytes / l.width) there in
     let last = ended_bytes l bytes rest (length rest) ends ∙ ap (λ (t : List ℕ). part_behind l bytes ++ t) (take_all (length rest) rest (omega arith)) in
     rw (sum, more, counted, counted', add-one) (rw (same, last) refl)
 
 -- while not all stated rows are there, the reader keeps the row that is not whole, and counts the whole ones
-pub held_part : (l : LayoutValue) (bytes : List ℕ) → is_full l bytes ≡ false → (reader_behind l bytes).held ≡ part_behind l bytes
-held_part l bytes lacks = rw lacks refl
+pub held_part : (l : LayoutValue) (first : ℕ) (bytes : List ℕ) → is_full l bytes ≡ false → (reader_from l first bytes).held ≡ part_behind l bytes
+held_part l first bytes lacks = rw lacks refl
 
 -- and it has given as many rows as there are whole ones
-pub given_number : (l : LayoutValue) (bytes : List ℕ) → is_full l bytes ≡ false → (reader_behind l bytes).given ≡ row_number (length bytes / l.width)
-given_number l bytes lacks = ap row_number (all_counted l.count l.width (length bytes) lacks)
+pub given_number : (l : LayoutValue) (first : ℕ) (bytes : List ℕ) → is_full l bytes ≡ false → (reader_from l first bytes).given ≡ row_number (length bytes / l.width)
+given_number l first bytes lacks = ap row_number (all_counted l.count l.width (length bytes) lacks)
 
--- a reader that keeps what one of this layout keeps has this layout
-pub own_layout : (r : RowsValue) (l : LayoutValue) (bytes : List ℕ) → r ≡ reader_behind l bytes → IsBehind r bytes
-own_layout r l bytes e = e ∙ ap (λ (m : LayoutValue). reader_behind m bytes) (sym (ap (λ (v : RowsValue). v.layout) e))
+-- a reader that keeps what one of this layout and this first number keeps has both
+pub own_layout : (r : RowsValue) (l : LayoutValue) (first : ℕ) (bytes : List ℕ) → r ≡ reader_from l first bytes → IsBehind r bytes
+own_layout r l first bytes e =
+    e ∙ ap (λ (m : LayoutValue). reader_from m first bytes) (sym (ap (λ (v : RowsValue). v.layout) e))
+    ∙ ap (λ (n : ℕ). reader_from r.layout n bytes) (sym (ap (λ (v : RowsValue). v.first) e))

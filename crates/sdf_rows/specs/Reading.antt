@@ -5,12 +5,13 @@ use Rattle.hot_units.specs.declared.raw_row.RawRow.{RawRow}
 use Rattle.sdf_rows.specs.declared.raw_row.RowFault.{RowFault}
 use Rattle.sdf_rows.specs.declared.raw_row.RowFault.TheVariants.{Trailing}
 use Rattle.sdf_rows.specs.declared.raw_row.RowStep.{RowStep}
-use Rattle.sdf_rows.specs.Rows.{row_number, row_at, rows_in, is_beyond_at}
+use Rattle.sdf_rows.specs.Rows.{row_number, row_from, rows_in, is_beyond_at}
 
--- the layout, how many rows were given, the bytes of the row that is not whole, and whether a byte came behind the
--- last row
+-- the layout, the number of the first row, how many rows were given, the bytes of the row that is not whole, and
+-- whether a byte came behind the last row
 pub record RowsValue : Type 0 where
   pub layout : LayoutValue
+  pub first : ℕ
   pub given : ℕ
   pub held : List ℕ
   pub beyond : Bool
@@ -28,29 +29,38 @@ is_full l bytes = is_full_at l.count l.width (length bytes)
 abbrev pub part_behind : LayoutValue → List ℕ → List ℕ
 part_behind l bytes = drop (length bytes / l.width * l.width) bytes
 
--- what a reader of this layout keeps that was given these bytes
-abbrev pub reader_behind : LayoutValue → List ℕ → RowsValue
-reader_behind l bytes = record {
+-- what a reader of this layout keeps that was given these bytes, and numbers its rows from `first` on
+abbrev pub reader_from : LayoutValue → ℕ → List ℕ → RowsValue
+reader_from l first bytes = record {
   layout = l;
+  first = first;
   given = row_number (rows_in l (length bytes));
   held = if is_full l bytes then [] else part_behind l bytes;
   beyond = is_beyond_at l.count l.width (length bytes);
 }
 
+-- the same, where it numbers them from 0 on
+abbrev pub reader_behind : LayoutValue → List ℕ → RowsValue
+reader_behind l bytes = reader_from l 0 bytes
+
 -- the reader was given these bytes, in any pieces
 abbrev pub IsBehind : RowsValue → List ℕ → Type 0
-IsBehind r bytes = r ≡ reader_behind r.layout bytes
+IsBehind r bytes = r ≡ reader_from r.layout r.first bytes
 
 -- how many bytes the row still wants that is not whole
 abbrev pub wanted : LayoutValue → List ℕ → ℕ
 wanted l bytes = l.width - length (part_behind l bytes)
 
--- the answer to a piece that comes behind these bytes
-abbrev pub answer_to : LayoutValue → List ℕ → List ℕ → Result RowStep RowFault
-answer_to l bytes piece =
+-- the answer to a piece that comes behind these bytes, where rows are numbered from `first` on
+abbrev pub answer_from : LayoutValue → ℕ → List ℕ → List ℕ → Result RowStep RowFault
+answer_from l first bytes piece =
     if is_full l bytes then Err Trailing
     else if nat_lt (length piece) (wanted l bytes) then Ok (record { taken = length piece; row = None })
-    else Ok (record { taken = wanted l bytes; row = Some (row_at l (bytes ++ piece) (length bytes / l.width)) })
+    else Ok (record { taken = wanted l bytes; row = Some (row_from l first (bytes ++ piece) (length bytes / l.width)) })
+
+-- the same, where they are numbered from 0 on
+abbrev pub answer_to : LayoutValue → List ℕ → List ℕ → Result RowStep RowFault
+answer_to l bytes piece = answer_from l 0 bytes piece
 
 -- the bytes of the piece that were read: those taken, or at a fault all
 abbrev pub read_of : Result RowStep RowFault → List ℕ → List ℕ

@@ -4,8 +4,8 @@ use hot_units::RawRow;
 /// Why the bytes behind a header are not its rows.
 #[derive(Clone, Copy, Debug, PartialEq, Eq)]
 pub enum RowFault {
-    /// The input ends within this row, or before it where the stated number of rows is not reached
-    /// (B1).
+    /// The input ends within the row of this number, or before it where the stated number of rows is
+    /// not reached (B1).
     Truncated { row: u64 },
     /// A byte follows the last of a stated number of rows (B2).
     Trailing,

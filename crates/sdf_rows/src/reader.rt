@@ -2,9 +2,10 @@
 
 ghost use Rattle.std.specs.Prelude.{◌≡◌, ◌+◌, ◌-◌, ◌^◌, ◌<◌, ◌≤◌, ◌++◌, [], length, is_some, min};
 ghost use Rattle.std.specs.Prelude.{ℕ, List, IfOk, IfSome};
-ghost use Rattle.sdf_rows.specs.Rows.{row_of, rows, ending, Has64Bits};
-ghost use Rattle.sdf_rows.specs.Reading.{IsBehind, reader_behind, is_full, answer_to, read_of};
-ghost use Rattle.sdf_rows.specs.Reading.{given_by};
+ghost use Rattle.hot_units.specs.Limits.{max_bodies};
+ghost use Rattle.sdf_rows.specs.Rows.{row_of, row_number, rows_from, ending_from, Has64Bits};
+ghost use Rattle.sdf_rows.specs.Reading.{IsBehind, reader_from, reader_behind, is_full};
+ghost use Rattle.sdf_rows.specs.Reading.{answer_from, read_of, given_by};
 
 use crate::layout_row::row_of;
 use crate::raw_row::{RowFault, RowStep};
@@ -15,12 +16,13 @@ use std::marker::Model;
 
 /// A reader of the rows behind a header, in any pieces.
 ///
-/// It takes no memory: it keeps the bytes of one row. It is seen as its layout, how many rows it
-/// gave, the bytes of the row that is not whole, and whether a byte came behind the last row. Rows
-/// are counted up to 2^64 - 1.
+/// It takes no memory: it keeps the bytes of one row. It is seen as its layout, the number of its
+/// first row, how many rows it gave, the bytes of the row that is not whole, and whether a byte came
+/// behind the last row. Rows are counted and numbered up to 2^64 - 1.
 #[derive(Drop)]
 pub struct Rows {
     layout: Layout,
+    first: u64,
     given: u64,
     held: [u8; MAX_ROW_BYTES as usize],
     filled: usize,
@@ -29,7 +31,7 @@ pub struct Rows {
 
 impl Model for Rows {
     ghost use Rattle.std.specs.Prelude.{◌≡◌, ◌≤◌, take, length};
-    ghost use Rattle.hot_units.specs.Limits.{max_row_bytes};
+    ghost use Rattle.hot_units.specs.Limits.{max_bodies, max_row_bytes};
     ghost use Rattle.sdf_header.specs.Layouts.{IsLayout};
     ghost use Rattle.sdf_rows.specs.Reading.{RowsValue};
 
@@ -37,22 +39,34 @@ impl Model for Rows {
 
     ghost view = { λ r. record {
       layout = r.layout;
+      first = r.first;
       given = r.given;
       held = take r.filled r.held;
       beyond = r.beyond;
     } };
 
     ghost invariant = { λ r. IsLayout r.layout × (r.filled ≤ r.layout.width)
-        × (length r.held ≡ max_row_bytes) };
+        × (length r.held ≡ max_row_bytes) × (r.first ≤ max_bodies) };
 }
 
 impl Rows {
-    /// A reader that was given no bytes.
+    /// A reader that was given no bytes, and numbers its rows from 0.
     pub fn new(layout: Layout) -> Rows
         ensures empty { result ≡ reader_behind layout [] }
     {
+        Rows::from_row(layout, 0)
+    }
+
+    /// A reader that was given no bytes, and numbers its rows from `first`, at most 1,048,576: so a
+    /// file goes on behind the rows of the files before it. An absent ident is the row's number, and
+    /// `Truncated` names it.
+    pub fn from_row(layout: Layout, first: u64) -> Rows
+        requires within { first ≤ max_bodies }
+        ensures empty { result ≡ reader_from layout first [] }
+    {
         Rows {
             layout,
+            first,
             given: 0,
             held: [0; MAX_ROW_BYTES as usize],
             filled: 0,
@@ -70,14 +84,15 @@ impl Rows {
     pub fn feed(&mut self, piece: &[u8]) -> Result<RowStep, RowFault>
         requires some { 1 ≤ length piece.now }
         ensures answer { (bytes : List ℕ) → IsBehind self.old bytes
-            → result ≡ answer_to self.old.layout bytes piece.now }
+            → result ≡ answer_from self.old.layout self.old.first bytes piece.now }
         ensures after { (bytes : List ℕ) → IsBehind self.old bytes
             → IsBehind self.new (bytes ++ read_of result piece.now) }
         // The rows of the bytes joined are those given before, and now the one given here.
         ensures rows { (bytes : List ℕ) → IsBehind self.old bytes
-            → rows self.old.layout (bytes ++ read_of result piece.now)
-            ≡ rows self.old.layout bytes ++ given_by result }
+            → rows_from self.old.layout self.old.first (bytes ++ read_of result piece.now)
+            ≡ rows_from self.old.layout self.old.first bytes ++ given_by result }
         ensures layout { self.new.layout ≡ self.old.layout }
+        ensures first { self.new.first ≡ self.old.first }
         ensures within { IfOk result (λ step. step.taken ≤ length piece.now) }
         ensures fits { IfOk result (λ step. IfSome step.row Has64Bits) }
     {
@@ -100,13 +115,13 @@ impl Rows {
         })
     }
 
-    /// The number of rows, where the input ends here.
+    /// How many rows were given, where the input ends here.
     ///
-    /// The fault is `Truncated`, exactly where the bytes end within that row or before a stated
-    /// count is reached, or the fault that `feed` gave.
+    /// The fault is `Truncated`, exactly where the bytes end within the row of that number or before
+    /// a stated count is reached, or the fault that `feed` gave.
     pub fn finish(&self) -> Result<u64, RowFault>
         ensures ending { (bytes : List ℕ) → IsBehind self.now bytes
-            → result ≡ ending self.now.layout bytes }
+            → result ≡ ending_from self.now.layout self.now.first bytes }
     {
         if self.beyond {
             return Err(RowFault::Trailing);
@@ -114,7 +129,7 @@ impl Rows {
         if self.is_full() {
             return Ok(self.given);
         }
-        let cut = RowFault::Truncated { row: self.given };
+        let cut = RowFault::Truncated { row: self.number() };
         if self.is_counted() {
             return Err(cut);
         }
@@ -134,6 +149,13 @@ impl Rows {
             Some(count) => self.given >= u64::from(count),
             None => false,
         }
+    }
+
+    /// The number of the current row.
+    fn number(&self) -> u64
+        ensures { result ≡ row_number (self.now.first + self.now.given) }
+    {
+        self.first.saturating_add(self.given)
     }
 
     /// Whether a count is stated.
@@ -179,18 +201,20 @@ impl Rows {
     /// The current row, whose last bytes these are. The next row becomes the current one.
     fn row_with(&mut self, rest: &[u8]) -> RawRow
         requires { length self.old.held + length rest.now ≡ self.old.layout.width }
-        ensures value { result ≡ row_of self.old.layout self.old.given (self.old.held ++ rest.now) }
+        ensures value { result ≡ row_of self.old.layout
+            (row_number (self.old.first + self.old.given)) (self.old.held ++ rest.now) }
         ensures after { self.new
             ≡ record self.old { given = min (self.old.given + 1) (2 ^ 64 - 1); held = [] } }
         ensures fits { Has64Bits result }
     {
+        let number = self.number();
         if self.kept().is_empty() {
-            let row = row_of(&self.layout, self.given, rest);
+            let row = row_of(&self.layout, number, rest);
             self.end_row();
             return row;
         }
         self.keep(rest);
-        let row = row_of(&self.layout, self.given, self.kept());
+        let row = row_of(&self.layout, number, self.kept());
         self.end_row();
         row
     }

@@ -12,7 +12,7 @@ returns-then-is_full c = record {
       let width = ap (λ (v : RowsValue). v.layout.width) c.self.view_is in
       let within = sym (ap (λ (v : RowsValue). v.beyond) (c.self.view_is ∙ is)) ∙ c.if-self.false in
       ap (λ (v : RowsValue). Ok v.given) (c.self.view_is ∙ is)
-      ∙ sym (ends_full c.args.self.now.layout bytes (omega (arith, width, c.self.invariant.0.some_bytes)) full within);
+      ∙ sym (ends_full c.args.self.now.layout c.args.self.now.first bytes (omega (arith, width, c.self.invariant.0.some_bytes)) full within);
 }
 
 -- where a stated row lacks, the next row is cut short
@@ -23,5 +23,5 @@ returns-then-is_counted c = record {
       let width = ap (λ (v : RowsValue). v.layout.width) c.self.view_is in
       let counted = sym c.is_counted.ensures ∙ c.if-is_counted.true in
       ap (λ (v : RowsValue). Err (Truncated v.given)) (c.self.view_is ∙ is)
-      ∙ sym (ends_counted c.args.self.now.layout bytes (omega (arith, width, c.self.invariant.0.some_bytes)) counted lacks);
+      ∙ sym (ends_counted c.args.self.now.layout c.args.self.now.first bytes (omega (arith, width, c.self.invariant.0.some_bytes)) counted lacks);
 }
