@@ -10,7 +10,7 @@ use Rattle.std.specs.Ordering.{is_lt, ordering_then, nat_cmp}
 use Rattle.hot_units.specs.Values.{BodyValue}
 use Rattle.hot_units.specs.Keys.{key_of_body}
 use Rattle.hot_units.specs.Order.{before, placed, ordered, IsInOrder}
-use Rattle.hot_units.specs.Bodies.{IsBody, RowsCount, RowsDiffer}
+use Rattle.hot_units.specs.Bodies.{mass_of, mass_of_body, IsBody, RowsCount, RowsDiffer}
 use Rattle.hot_units.proofs.Members.{head_has, tail_has, cons_cases, nil_has}
 use Rattle.hot_units.proofs.Bodies.{before_orders, in_order_tail}
 use Rattle.key_order.specs.Ordered.{IsSet, IsOrderedSet}
@@ -252,6 +252,7 @@ two_compared j k m n = grind (arith, nat_tests)
 pub ordered_set : (xs ys : List BodyValue) (idents : List ℤ) (weights : List ℕ) → IsSet xs idents weights → IsPermutation xs ys → IsInOrder ys → IsOrderedSet (record { bodies = ys; idents = idents; weights = weights })
 ordered_set xs ys idents weights s p o =
     let n : length ys ≡ length xs = length_permutation xs ys p in
+    let m : mass_of ys ≡ mass_of xs = sum_by-IsPermutation mass_of_body xs ys p in
     let in_xs : All (λ b. b.row < length xs) xs = λ i d h. (let e = s.rows i d h in omega (arith, e, h)) in
     let in_ys : All (λ b. b.row < length xs) ys = All-permutation (λ b. b.row < length xs) xs ys p in_xs in
     record {
@@ -260,6 +261,7 @@ ordered_set xs ys idents weights s p o =
       rows_differ = differ_moved xs ys (one_each xs s.rows) p;
       rows_in = λ i d h. (let e = in_ys i d h in omega (arith, n, e));
       few = omega (arith, n, s.few);
+      light = omega (arith, m, s.light);
       idents_too = omega (arith, n, s.idents_too);
       weights_too = omega (arith, n, s.weights_too);
     }

@@ -39,7 +39,8 @@ fn by_key_and_row(a: &Body, b: &Body) -> Ordering
 }
 
 /// The bodies of a set in key order, by std's sort, which works in place: it takes no memory. The
-/// bodies are given in the order of the file, each with its place as its row.
+/// bodies are given in the order of the file, each with its place as its row, and have at most 2^40
+/// of mass.
 pub fn in_key_order(mut bodies: Vec<Body>, idents: Vec<i128>, weights: Vec<u32>) -> Ordered
     requires set { IsSet bodies.items idents.items weights.items }
     ensures ordered { result
