@@ -1,5 +1,6 @@
-use Rattle.std.proofs.Common.{Ok, Err, ap, sym, ◌∙◌, arith}
+use Rattle.std.proofs.Common.{ℕ, ◌+◌, Ok, Err, ap, sym, ◌∙◌, arith}
 use Rattle.sdf_rows.specs.declared.raw_row.RowFault.TheVariants.{Truncated}
+use Rattle.sdf_rows.specs.Rows.{row_number}
 use Rattle.sdf_rows.specs.Reading.{RowsValue}
 use Rattle.sdf_rows.proofs.Ends.{ends_full, ends_counted}
 use Rattle.sdf_rows.proofs.reader.Rows.finish.Goals as goal
@@ -22,6 +23,7 @@ returns-then-is_counted c = record {
       let lacks = sym (c.is_full.ensures bytes is) ∙ c.if-is_full.false in
       let width = ap (λ (v : RowsValue). v.layout.width) c.self.view_is in
       let counted = sym c.is_counted.ensures ∙ c.if-is_counted.true in
-      ap (λ (v : RowsValue). Err (Truncated v.given)) (c.self.view_is ∙ is)
+      ap (λ (n : ℕ). Err (Truncated n)) c.number.ensures
+      ∙ ap (λ (v : RowsValue). Err (Truncated (row_number (v.first + v.given)))) is
       ∙ sym (ends_counted c.args.self.now.layout c.args.self.now.first bytes (omega (arith, width, c.self.invariant.0.some_bytes)) counted lacks);
 }
