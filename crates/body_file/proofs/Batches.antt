@@ -1,7 +1,8 @@
 -- Whole files that a source gave, one after another.
-use Rattle.std.proofs.Common.{◌≡◌, ℕ, suc, ◌+◌, ◌-◌, ◌*◌, ◌<◌, ◌≤◌, ◌⊎◌, inl, inr, true, false, List, [], ◌∷◌, ◌++◌, length, get_or, take, Option, Some, None, refl, sym, ap, ◌∙◌, arith, subst, length-append}
-use Rattle.std.specs.Prelude.{sum_by}
+use Rattle.std.proofs.Common.{◌≡◌, ℕ, suc, ◌+◌, ◌-◌, ◌*◌, ◌<◌, ◌≤◌, ◌⊎◌, inl, inr, true, false, List, [], ◌∷◌, ◌++◌, length, get_or, take, Option, Some, None, refl, sym, ap, ◌∙◌, arith, subst, length-append, map, Bor, rules}
+use Rattle.std.specs.Prelude.{sum_by, IsSome, slice_index_or}
 use Rattle.std.proofs.lemmas.Bool.{cases_lt}
+use Rattle.std.proofs.Math.ListN.{get_or-map}
 use Rattle.std.proofs.lemmas.List.{get_or_append_left, get_or_push}
 use Rattle.std.proofs.lemmas.List.Sums.{sum_by-append}
 use Rattle.hot_units.specs.Limits.{max_header_bytes, max_bodies, max_row_bytes, max_files}
@@ -11,10 +12,11 @@ use Rattle.body_set.specs.Sets.{SetValue}
 use Rattle.body_file.specs.declared.fault.FileFault.{FileFault}
 use Rattle.body_file.specs.declared.fault.FileError.{FileError}
 use Rattle.body_file.specs.declared.fault.FileError.TheVariants.{Broken, Refused, Memory}
-use Rattle.body_file.specs.Files.{FilesRead, all_read, IsPrompt, ReadsBodies, Stopped, stopped_at, taken_in_all, but_a_piece}
-use Rattle.body_file.specs.Sources.{told_at, HasGiven, StandsBehind}
+use Rattle.body_file.specs.Files.{fault_from, fault_of, set_of_files, FilesRead, all_read, IsPrompt, ReadsBodies, Stopped, stopped_at, taken_in_all, but_a_piece}
+use Rattle.body_file.specs.Sources.{AreAllowed, told_at, HasGiven, StandsBehind}
 use Rattle.body_file.specs.Reading.{count_of, AreBefore, IsSetBefore, HasFile, ReadsFile, StopsFile, IsPromptBehind, AreRead}
 use Rattle.body_file.proofs.Readings.{nothing_undecided}
+use Rattle.body_file.proofs.Verdicts.{has_set}
 use Rattle.body_file.proofs.Lists.{good_push, set_push, so_far, decide}
 
 -- how many bytes these files have
@@ -25,6 +27,7 @@ module _ {S : Type 0} (s : sources.Ghosts S) (names : List (List ℕ)) (old : S)
 
   -- before the first file none was given
   pub none_read : s.is_open old ≡ false → AreRead s names [] old old None
+  unfolding fault_from set_of_files
   none_read closed = record {
     given = record {
       few = omega arith;
@@ -123,5 +126,31 @@ stopped_there s names whole old mid set input (Refused f) a h = (h.0, decide who
 stopped_there s names whole old mid set input Memory a h = h
 
 -- the bodies of all files were read
-pub reads_all : {S : Type 0} (s : sources.Ghosts S) (names whole : List (List ℕ)) (old new : S) (set : SetValue) → AreRead s names whole old new (Some set) → length whole ≡ length names → ReadsBodies (length names) (all_read whole) set
-reads_all s names whole old new set a all = record { all = refl; number = all; has = record { good = a.good; are = a.are } }
+pub reads_all : {S : Type 0} (s : sources.Ghosts S) (names whole : List (List ℕ)) (old new : S) (set : SetValue) → AreRead s names whole old new (Some set) → (count : ℕ) → length whole ≡ count → ReadsBodies count (all_read whole) set
+reads_all s names whole old new set a count all = record { all = refl; number = all; has = record { good = a.good; are = a.are } }
+
+some_set : (o : Option SetValue) (set : SetValue) → o ≡ Some set → IsSome o
+some_set None set e = absurd cc
+some_set (Some s) set e = search rules
+
+set_behind_some : (whole : List (List ℕ)) (o : Option SetValue) → fault_of whole ≡ None → set_of_files None whole ≡ o → 1 ≤ length whole → IsSome o
+set_behind_some [] o good are some = absurd (omega (arith, some))
+set_behind_some (file ∷ files) o good are some = let s = has_set None 0 file files good in some_set o s.0 (sym are ∙ s.1)
+
+-- behind at least one file there is a set
+pub set_is_some : {S : Type 0} (s : sources.Ghosts S) (names whole : List (List ℕ)) (old new : S) (set : Option SetValue) → AreRead s names whole old new set → 1 ≤ length whole → IsSome set
+set_is_some s names whole old new set a some = set_behind_some whole set a.good a.are some
+
+-- the name of the next file
+pub name_at : (names : List (Bor (List ℕ))) (i k : ℕ) → k ≡ i → (slice_index_or names i (record { ref_ptr = (0, 0); now = [] })).now ≡ get_or (map (λ (name : Bor (List ℕ)). name.now) names) k []
+name_at names i k e = rw e (sym (get_or-map (λ (name : Bor (List ℕ)). name.now) names i (record { ref_ptr = (0, 0); now = [] })))
+
+-- as many names as there are
+pub names_length : (names : List (Bor (List ℕ))) → length (map (λ (name : Bor (List ℕ)). name.now) names) ≡ length names
+names_length [] = refl
+names_length (name ∷ names) = ap suc (names_length names)
+
+-- the next open may have the next name
+pub allowed_at : {S : Type 0} (s : sources.Ghosts S) (names whole : List (List ℕ)) (old mid : S) (set : Option SetValue) (name : List ℕ) → AreRead s names whole old mid set → length whole < length names → name ≡ get_or names (length whole) [] → AreAllowed (s.allows old) (s.opens old) names → s.allows mid (s.opens mid) name ≡ true
+allowed_at s names whole old mid set name a more is h =
+    rw (a.given.allows, a.given.opens, is) (h (length whole) more)

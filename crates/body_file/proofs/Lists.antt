@@ -1,5 +1,5 @@
 -- The faults and the bodies of files, one behind another.
-use Rattle.std.proofs.Common.{◌≡◌, ℕ, suc, ◌+◌, true, false, List, [], ◌∷◌, ◌++◌, length, Option, Some, None, Result, Ok, Err, refl, sym, ap, ◌∙◌, arith, absurd, append-nil, subst}
+use Rattle.std.proofs.Common.{◌≡◌, ℕ, suc, ◌+◌, true, false, List, [], ◌∷◌, ◌++◌, length, Option, Some, None, Result, Ok, Err, refl, sym, ap, ◌∙◌, arith, append-nil, subst}
 use Rattle.hot_io.specs.Reading.{Reading, unread, unopened, unfinished, ended, broken, taken, has_ended, has_failed}
 use Rattle.body_set.specs.Sets.{SetValue}
 use Rattle.body_file.specs.declared.fault.FileFault.{FileFault}

@@ -1,7 +1,8 @@
 -- How many bytes rows without a fault have.
 use Rattle.std.proofs.Common.{◌≡◌, ℕ, suc, ◌+◌, ◌-◌, ◌*◌, ◌/◌, ◌^◌, ◌≤◌, ◌<◌, Bool, true, false, cond, List, [], ◌∷◌, ◌++◌, length, min, Option, Some, None, Result, Ok, Err, refl, sym, ap, ◌∙◌, arith, inl, inr, length-append}
 use Rattle.std.proofs.Math.Nat.{min-eq_left, mul-le-mul_right, mul-le-mul_left}
-use Rattle.std.proofs.lemmas.Bool.{ltb-true, ltb-false, leb-true, cases_Bool}
+use Rattle.std.proofs.lemmas.Nat.{le-div}
+use Rattle.std.proofs.lemmas.Bool.{ltb-true, ltb-false, leb-true, le-leb, cases_Bool}
 use Rattle.std.specs.Prelude.{nat_lt, if◌then◌else◌}
 use Rattle.hot_units.specs.Limits.{max_bodies, max_row_bytes}
 use Rattle.hot_units.specs.Values.{BodyValue, CubeValue}
@@ -16,6 +17,7 @@ use Rattle.sdf_rows.proofs.Steps.{all_counted, part_length}
 use Rattle.sdf_rows.proofs.Ends.{full_exact}
 use Rattle.body_set.specs.declared.fault.PushError.{PushError}
 use Rattle.body_set.specs.declared.fault.PushError.TheVariants.{TooMany}
+use Rattle.hot_units.specs.Bodies.{mass_of}
 use Rattle.body_set.specs.Rows.{body_of_row}
 use Rattle.body_set.specs.Sets.{SetValue}
 use Rattle.body_set.proofs.FirstFault.{first_by_tests}
@@ -32,7 +34,7 @@ room_by false o e = absurd cc
 
 -- a row without a fault is one of those that there may be
 row_room : (cube : CubeValue) (before : List BodyValue) (raw : RawRow) → row_fault cube before raw ≡ None → length before < max_bodies
-row_room cube before raw e = ltb-true _ _ (room_by (nat_lt (length before) max_bodies) _ (sym (ap named (first_by_tests cube before raw)) ∙ e))
+row_room cube before raw e = ltb-true _ _ (room_by (nat_lt (length before) max_bodies) _ (sym (ap named (first_by_tests cube (length before) (mass_of before) raw)) ∙ e))
 
 rows_few_from : (cube : CubeValue) (before : List BodyValue) (raws : List RawRow) → length before ≤ max_bodies → first_refused cube before raws ≡ None → length before + length raws ≤ max_bodies
 unfolding first_refused
@@ -119,14 +121,18 @@ exact_by true beyond k n f e = absurd cc
 exact_by false true k n f e = absurd cc
 exact_by false false k n f e = (refl, refl)
 
-exact_length : (count : Option ℕ) (w len : ℕ) → is_cut_at count w len ≡ false → is_beyond_at count w len ≡ false → len ≤ at_most count (len / w) * w
-exact_length None w len uncut within = ltb-false (len / w * w) len uncut
-exact_length (Some n) w len uncut within = ?
+exact_length : (count : Option ℕ) (w len : ℕ) → 1 ≤ w → is_cut_at count w len ≡ false → is_beyond_at count w len ≡ false → len ≤ at_most count (len / w) * w
+exact_length None w len wide uncut within = ltb-false (len / w * w) len uncut
+exact_length (Some n) w len wide uncut within =
+    let there : n * w ≤ len = ltb-false len (n * w) uncut in
+    let le : n ≤ len / w = le-div n len w (omega arith) (omega arith) in
+    let all = full_length (Some n) w len (le-leb n (len / w) le) within in
+    omega (arith, all)
 
 -- bytes that end with their rows are these rows
-pub rows_exact : (first : ℕ) (l : LayoutValue) (bytes : List ℕ) (n : ℕ) → l.width ≤ max_row_bytes → ending_from l first bytes ≡ Ok n → length bytes ≤ rows_in l (length bytes) * max_row_bytes
-rows_exact first l bytes n narrow e =
+pub rows_exact : (first : ℕ) (l : LayoutValue) (bytes : List ℕ) (n : ℕ) → 1 ≤ l.width → l.width ≤ max_row_bytes → ending_from l first bytes ≡ Ok n → length bytes ≤ rows_in l (length bytes) * max_row_bytes
+rows_exact first l bytes n wide narrow e =
     let parts = exact_by (is_cut_at l.count l.width (length bytes)) (is_beyond_at l.count l.width (length bytes)) _ n _ e in
-    let exact = exact_length l.count l.width (length bytes) parts.0 parts.1 in
+    let exact = exact_length l.count l.width (length bytes) wide parts.0 parts.1 in
     let wider : rows_in l (length bytes) * l.width ≤ rows_in l (length bytes) * max_row_bytes = mul-le-mul_left (rows_in l (length bytes)) narrow in
     omega (arith, exact, wider)

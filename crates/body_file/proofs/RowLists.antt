@@ -2,15 +2,14 @@
 use Rattle.std.proofs.Common.{◌≡◌, ℕ, zero, suc, ◌+◌, ◌-◌, ◌*◌, ◌/◌, ◌≤◌, ◌<◌, Bool, true, false, List, [], ◌∷◌, ◌++◌, length, Option, Some, None, Ok, Err, refl, sym, ap, ◌∙◌, arith, length-append, append-nil, append_assoc, subst}
 use Rattle.std.proofs.Math.Nat.{min-eq_left}
 use Rattle.std.proofs.lemmas.Bool.{ltb-true, leb-true, leb-false}
-use Rattle.hot_units.specs.Values.{BodyValue, CubeValue}
+use Rattle.hot_units.specs.Values.{CubeValue}
 use Rattle.sdf_header.specs.Layouts.{LayoutValue}
 use Rattle.hot_units.specs.declared.raw_row.RawRow.{RawRow}
 use Rattle.sdf_rows.specs.Rows.{row_from, first_rows_from, rows_from, rows_in, at_most}
 use Rattle.sdf_rows.proofs.Places.{more_rows}
 use Rattle.sdf_rows.proofs.Steps.{first_rows_same, counted_lie}
 use Rattle.body_set.specs.Rows.{body_of_row}
-use Rattle.body_set.specs.Sets.{SetValue, with_rows, bodies_from}
-use Rattle.body_set.proofs.Adding.{bodies-length}
+use Rattle.body_set.specs.Sets.{SetValue, with_row, with_rows}
 use Rattle.body_file.specs.declared.fault.FileFault.{FileFault}
 use Rattle.body_file.specs.Faults.{first_of, row_fault, first_refused}
 
@@ -28,21 +27,14 @@ first_alone (Some f) = refl
 abbrev pub refused_behind : SetValue → List RawRow → Option FileFault
 refused_behind before raws = first_refused before.cube before.bodies raws
 
-refused_on : (cube : CubeValue) (before : List BodyValue) (raws more : List RawRow) → first_refused cube before (raws ++ more) ≡ first_of (first_refused cube before raws) (first_refused cube (before ++ bodies_from cube (length before) raws) more)
-unfolding first_refused bodies_from
-refused_on cube before [] more = ap (λ (b : List BodyValue). first_refused cube b more) (sym (append-nil before))
-refused_on cube before (raw ∷ raws) more =
-    let body = body_of_row cube (length before) raw in
-    let next = before ++ body ∷ [] in
-    let count : length next ≡ suc (length before) = omega (arith, length-append before (body ∷ [])) in
-    let moved : next ++ bodies_from cube (length next) raws ≡ before ++ (body ∷ bodies_from cube (suc (length before)) raws) =
-    ap (λ (n : ℕ). next ++ bodies_from cube n raws) count ∙ append_assoc before (body ∷ []) (bodies_from cube (suc (length before)) raws) in
-    ap (first_of (row_fault cube before raw)) (refused_on cube next raws more ∙ ap (λ (b : List BodyValue). first_of (first_refused cube next raws) (first_refused cube b more)) moved)
-    ∙ first_of_three (row_fault cube before raw) (first_refused cube next raws) _
-
 -- the first fault of two lists of rows, one behind the other
 pub refused_append : (before : SetValue) (raws more : List RawRow) → refused_behind before (raws ++ more) ≡ first_of (refused_behind before raws) (refused_behind (with_rows before raws) more)
-refused_append before raws more = refused_on before.cube before.bodies raws more
+unfolding first_refused with_rows
+refused_append before [] more = refl
+refused_append before (raw ∷ raws) more =
+    let next = with_row before raw in
+    ap (first_of (row_fault before.cube before.bodies raw)) (refused_append next raws more)
+    ∙ first_of_three (row_fault before.cube before.bodies raw) (refused_behind next raws) (refused_behind (with_rows next raws) more)
 
 -- the first fault of rows with one more
 pub refused_push : (before : SetValue) (raws : List RawRow) (raw : RawRow) → refused_behind before (raws ++ raw ∷ []) ≡ first_of (refused_behind before raws) (row_fault (with_rows before raws).cube (with_rows before raws).bodies raw)
@@ -92,6 +84,24 @@ rows_prefix l first bytes more some =
     let same = first_rows_same l first bytes more n (counted_lie l.count l.width (length bytes)) in
     (parts.0, ap (first_rows_from l first (bytes ++ more)) (sym whole) ∙ parts.1 ∙ ap (λ (r : List RawRow). r ++ parts.0) same)
 
+-- ---- sets with rows
+
+-- a row behind some is the last of them
+pub rows_one_more : (set : SetValue) (raws : List RawRow) (raw : RawRow) → with_row (with_rows set raws) raw ≡ with_rows set (raws ++ raw ∷ [])
+unfolding with_rows
+rows_one_more set [] raw = refl
+rows_one_more set (first ∷ raws) raw = rows_one_more (with_row set first) raws raw
+
+-- no row leaves the set
+pub rows_none : (set : SetValue) → with_rows set [] ≡ set
+unfolding with_rows
+rows_none set = refl
+
 -- a set with rows has as many bodies more
 pub with_length : (set : SetValue) (raws : List RawRow) → length (with_rows set raws).bodies ≡ length set.bodies + length raws
-with_length set raws = length-append set.bodies (bodies_from set.cube (length set.bodies) raws) ∙ ap (λ (n : ℕ). length set.bodies + n) (bodies-length set.cube (length set.bodies) raws)
+unfolding with_rows
+with_length set [] = omega arith
+with_length set (raw ∷ raws) =
+    let one = length-append set.bodies (body_of_row set.cube (length set.bodies) raw ∷ []) in
+    let rest = with_length (with_row set raw) raws in
+    omega (arith, one, rest)

@@ -16,15 +16,19 @@ use Rattle.sdf_header.proofs.Known.{split_piece}
 use Rattle.sdf_rows.proofs.Places.{part_short, rows_lie}
 use Rattle.sdf_rows.proofs.Steps.{none_beyond, part_length, full_rows, all_beyond}
 use Rattle.sdf_rows.proofs.Ends.{ends_beyond}
+use Rattle.std.specs.Prelude.{MatchOption}
+use Rattle.std.specs.Result.{IsOkUnless}
+use Rattle.body_set.specs.declared.fault.PushError.{PushError}
+use Rattle.body_set.specs.declared.fault.PushError.TheVariants as push
+use Rattle.body_set.specs.Rows.{first_fault}
 use Rattle.body_set.specs.Sets.{SetValue, with_row, with_rows}
-use Rattle.body_set.proofs.Adding.{rows_add_up}
 use Rattle.body_file.specs.declared.fault.FileFault.{FileFault}
 use Rattle.body_file.specs.declared.fault.FileFault.TheVariants.{End}
 use Rattle.body_file.specs.declared.fault.FileError.{FileError}
 use Rattle.body_file.specs.declared.fault.FileError.TheVariants.{Broken, Refused, Memory}
-use Rattle.body_file.specs.Faults.{first_of, row_fault, first_refused, ended_by, end_fault, rows_fault}
+use Rattle.body_file.specs.Faults.{first_of, row_error, named, row_fault, first_refused, ended_by, end_fault, rows_fault}
 use Rattle.body_file.specs.Reading.{IsAt, PushesRow, StopsRows}
-use Rattle.body_file.proofs.RowLists.{refused_behind, refused_append, refused_push, rows_behind, rows_prefix}
+use Rattle.body_file.proofs.RowLists.{refused_behind, refused_append, refused_push, rows_behind, rows_prefix, rows_one_more}
 
 -- ---- the answer
 
@@ -103,6 +107,35 @@ trailing_stays before l bytes piece more ended wide some full good =
     ∙ ap (λ (o : Option FileFault). first_of o (end_fault first ended l (bytes ++ (piece ++ more)))) good
     ∙ end_beyond first ended l (bytes ++ (piece ++ more)) beyond
 
+-- ---- a row that is refused
+
+-- the answer for a refused row says of this fault what it says of the row
+abbrev TellsFault : Option FileFault → FileError → Type 0
+TellsFault fault (Refused f) = fault ≡ Some f
+TellsFault fault Memory = Unit {0}
+TellsFault fault Broken = ⊥
+
+tells_by : (e : PushError) → TellsFault (named (Some e)) (row_error e)
+tells_by push.TooMany = refl
+tells_by (push.Outside row axis) = refl
+tells_by (push.MassRange row) = refl
+tells_by (push.WorkRange row) = refl
+tells_by (push.MassSum row) = refl
+tells_by push.Memory = tt
+
+tells_fault : (o : Option PushError) (e : PushError) → MatchOption o (IsOkUnless {T = Unit {0}} (Err e) push.Memory) (λ f. ◌≡◌ {A = Result (Unit {0}) PushError} (Err e) (Err f)) → TellsFault (named o) (row_error e)
+tells_fault None e h = let m : e ≡ push.Memory = h in rw m tt
+tells_fault (Some f) e h = let m : e ≡ f = cc in rw m (tells_by f)
+
+says_so : (old new : SetValue) (raw : RawRow) (e : FileError) → TellsFault (row_fault old.cube old.bodies raw) e → PushesRow old new raw (Err e)
+says_so old new raw (Refused f) h = h
+says_so old new raw Memory h = tt
+says_so old new raw Broken h = absurd h
+
+-- a row that a set refuses is answered by its fault
+pub row_refused : (old new : SetValue) (raw : RawRow) (e : PushError) → MatchOption (first_fault old.cube old.bodies raw) (IsOkUnless {T = Unit {0}} (Err e) push.Memory) (λ f. ◌≡◌ {A = Result (Unit {0}) PushError} (Err e) (Err f)) → PushesRow old new raw (Err (row_error e))
+row_refused old new raw e h = says_so old new raw (row_error e) (tells_fault (first_fault old.cube old.bodies raw) e h)
+
 -- ---- steps
 
 -- the reader of rows took the front of a piece, up to the end of the current row
@@ -167,7 +200,7 @@ step_added before l r r' set set' bytes piece step raw at s given small good add
       sound = at.sound;
       few = at.few;
       behind = s.behind;
-      bodies = added ∙ ap (λ (v : SetValue). with_row v raw) at.bodies ∙ rows_add_up.one_more before old raw ∙ ap (with_rows before) (sym grown);
+      bodies = added ∙ ap (λ (v : SetValue). with_row v raw) at.bodies ∙ rows_one_more before old raw ∙ ap (with_rows before) (sym grown);
       good = ap (λ (a : List RawRow). first_of (refused_behind before a) end) grown
           ∙ ap (λ (o : Option FileFault). first_of o end) (next_fault before set old raw None at.bodies (rows_good before l bytes at.good) good)
           ∙ within_step (length before.bodies) l bytes piece step.taken wide s.lacks s.few;
@@ -195,13 +228,13 @@ pub record SaysStep (r r' : RowsValue) (piece : List ℕ) (step : RowStep) : Typ
   pub first : r'.first ≡ r.first
 
 -- what is said at the layout and the first row of a reader, said of these
-at_reader : {P : LayoutValue → ℕ → Type 0} (before : SetValue) (l : LayoutValue) (r : RowsValue) (set : SetValue) (bytes : List ℕ) → IsAt before l r set bytes → P r.layout r.first → P l (length before.bodies)
-at_reader {P} before l r set bytes at h = subst (λ (m : LayoutValue). P m (length before.bodies)) at.layout (subst (P r.layout) at.first h)
+at_reader : (P : LayoutValue → ℕ → Type 0) (before : SetValue) (l : LayoutValue) (r : RowsValue) (set : SetValue) (bytes : List ℕ) → IsAt before l r set bytes → P r.layout r.first → P l (length before.bodies)
+at_reader P before l r set bytes at h = subst (λ (m : LayoutValue). P m (length before.bodies)) at.layout (subst (P r.layout) at.first h)
 
 -- an answer that is no fault takes the piece up to the end of the current row at most
 pub stepped : (before : SetValue) (l : LayoutValue) (r r' : RowsValue) (set : SetValue) (bytes piece : List ℕ) (step : RowStep) → IsAt before l r set bytes → SaysStep r r' piece step → Stepped before l r' bytes piece step
 stepped before l r r' set bytes piece step at says =
-    let answer = at_reader {P = λ m n. Ok step ≡ answer_from m n bytes piece} before l r set bytes at (says.answer bytes at.behind) in
+    let answer = at_reader (λ m n. Ok step ≡ answer_from m n bytes piece) before l r set bytes at (says.answer bytes at.behind) in
     let by = ok_by (is_full l bytes) (length piece) (wanted l bytes) _ step (sym answer) in
     record {
       layout = says.layout ∙ at.layout;
@@ -209,13 +242,13 @@ stepped before l r r' set bytes piece step at says =
       lacks = by.0;
       few = by.2;
       behind = says.after bytes at.behind;
-      grown = at_reader {P = λ m n. rows_from m n (bytes ++ take step.taken piece) ≡ rows_from m n bytes ++ row_list step.row} before l r set bytes at (says.rows bytes at.behind);
+      grown = at_reader (λ m n. rows_from m n (bytes ++ take step.taken piece) ≡ rows_from m n bytes ++ row_list step.row) before l r set bytes at (says.rows bytes at.behind);
     }
 
 -- at least one byte is taken
 pub some_taken : (before : SetValue) (l : LayoutValue) (r r' : RowsValue) (set : SetValue) (bytes piece : List ℕ) (step : RowStep) → IsAt before l r set bytes → SaysStep r r' piece step → 1 ≤ length piece → 1 ≤ step.taken
 some_taken before l r r' set bytes piece step at says some =
-    takes_some l (length before.bodies) bytes piece step at.sound.some_bytes some (sym (at_reader {P = λ m n. Ok step ≡ answer_from m n bytes piece} before l r set bytes at (says.answer bytes at.behind)))
+    takes_some l (length before.bodies) bytes piece step at.sound.some_bytes some (sym (at_reader (λ m n. Ok step ≡ answer_from m n bytes piece) before l r set bytes at (says.answer bytes at.behind)))
 
 -- a row that was not added
 pub row_stops : (before : SetValue) (l : LayoutValue) (r r' : RowsValue) (set set' : SetValue) (bytes piece : List ℕ) (step : RowStep) (raw : RawRow) (e : FileError) → IsAt before l r set bytes → SaysStep r r' piece step → step.row ≡ Some raw → PushesRow set set' raw (Err e) → StopsRows before l (bytes ++ piece) e
@@ -226,6 +259,6 @@ row_stops before l r r' set set' bytes piece step raw Broken at says given bad =
 -- a byte too many
 pub trailing_stops : (before : SetValue) (l : LayoutValue) (r : RowsValue) (set : SetValue) (bytes piece : List ℕ) (fault : RowFault) → IsAt before l r set bytes → ((bytes : List ℕ) → IsBehind r bytes → Err fault ≡ answer_from r.layout r.first bytes piece) → 1 ≤ length piece → StopsRows before l (bytes ++ piece) (Refused (End fault))
 trailing_stops before l r set bytes piece fault at answer some = λ more ended.
-    let by = err_by (is_full l bytes) _ _ _ _ fault (sym (at_reader {P = λ m n. Err fault ≡ answer_from m n bytes piece} before l r set bytes at (answer bytes at.behind))) in
+    let by = err_by (is_full l bytes) _ _ _ _ fault (sym (at_reader (λ m n. Err fault ≡ answer_from m n bytes piece) before l r set bytes at (answer bytes at.behind))) in
     trailing_stays before l bytes piece more ended at.sound.some_bytes some by.0 (rows_good before l bytes at.good)
     ∙ ap (λ (f : RowFault). Some (End f)) (sym by.1)

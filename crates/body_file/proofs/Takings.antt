@@ -16,7 +16,6 @@ use Rattle.sdf_rows.specs.Reading.{RowsValue, reader_from, IsBehind}
 use Rattle.sdf_rows.proofs.Steps.{counted_below}
 use Rattle.hot_units.specs.Values.{CubeValue}
 use Rattle.body_set.specs.Sets.{SetValue, with_rows}
-use Rattle.body_set.proofs.Adding.{rows_add_up}
 use Rattle.body_file.specs.declared.fault.FileError.{FileError}
 use Rattle.body_file.specs.declared.fault.FileError.TheVariants.{Broken, Refused, Memory}
 use Rattle.body_file.specs.declared.reader.BodyReader.{BodyReader}
@@ -24,7 +23,7 @@ use Rattle.body_file.specs.declared.reader.BodyReader.TheVariants as stage
 use Rattle.body_file.specs.Faults.{first_refused, differs, set_before, decided_behind}
 use Rattle.body_file.specs.Reading.{IsSetBefore, AreBefore, count_of, file_limit, IsAt, StopsRows, IsWholeHeader, IsHeader, IsBehindHeader, HasTaken, Stops, given_to}
 use Rattle.body_file.proofs.Headers.{decided_by_rows, open_undecided}
-use Rattle.body_file.proofs.RowLists.{rows_behind}
+use Rattle.body_file.proofs.RowLists.{rows_behind, rows_none}
 use Rattle.body_file.proofs.RowCounts.{fed_length, rows_short}
 
 -- ---- the beginning of the rows
@@ -49,7 +48,7 @@ rows_begin before l r set old sound e f =
       sound = sound;
       few = old.few;
       behind = e ∙ ap (λ (m : LayoutValue). reader_from m (length before.bodies) []) (sym layout) ∙ ap (λ (n : ℕ). reader_from r.layout n []) (sym first);
-      bodies = f ∙ sym (rows_add_up.none before) ∙ ap (with_rows before) (sym none);
+      bodies = f ∙ sym (rows_none before) ∙ ap (with_rows before) (sym none);
       good = rw (none, none_stated l.count l.width) refl;
       named = subst (λ (v : SetValue). All Is64Bits v.idents) (sym f) old.named;
     }
@@ -63,6 +62,14 @@ begun_behind (Some set) cube h = h
 pub counted_before : (before : Option SetValue) (cube : CubeValue) → length (set_before before cube).bodies ≡ count_of before
 counted_before None cube = refl
 counted_before (Some set) cube = refl
+
+-- what a header begins whose cube is that of the files before
+pub rows_begun : (before : Option SetValue) (l : LayoutValue) (cube : CubeValue) (r : RowsValue) (set : SetValue) (n : ℕ) → cube ≡ l.cube → AreBefore before → IsLayout l → (differs before cube ≡ false) × (set ≡ set_before before cube) → n ≡ length set.bodies → r ≡ reader_from l n [] → (differs before l.cube ≡ false) × IsAt (set_before before l.cube) l r set []
+rows_begun before l cube r set n is old sound given count e =
+    let same : differs before l.cube ≡ false = ap (differs before) (sym is) ∙ given.0 in
+    let begun : set ≡ set_before before l.cube = given.1 ∙ ap (set_before before) is in
+    let first : n ≡ length (set_before before l.cube).bodies = count ∙ ap (λ (v : SetValue). length v.bodies) begun in
+    (same, rows_begin (set_before before l.cube) l r set (begun_behind before l.cube old) sound (e ∙ ap (λ (k : ℕ). reader_from l k []) first) begun)
 
 -- ---- rows behind a header
 
@@ -109,7 +116,8 @@ open_short : (bytes : List ℕ) → extent bytes ≡ Open → length bytes < max
 unfolding extent
 open_short bytes h = short_by (length bytes) (agrees magic bytes) (ending bytes) h
 
-front_short : (text : ℕ) (front : List ℕ) → IsWholeHeader text front → length front ≤ max_header_bytes
+-- so is a whole one
+pub front_short : (text : ℕ) (front : List ℕ) → IsWholeHeader text front → length front ≤ max_header_bytes
 front_short text front whole = (within front text (length front) (ap extent (sym (append-nil front)) ∙ (whole []).0)).1
 
 -- the reader decided nothing yet

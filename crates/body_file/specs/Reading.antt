@@ -91,9 +91,9 @@ HasTaken before (stage.Rows rows set) bytes = IsBehindHeader before rows set byt
 
 -- why the reading stops at these bytes
 abbrev pub Stops : Option SetValue → Bool → List ℕ → FileError → Type 0
-Stops before ended bytes (Refused fault) = Decides before ended bytes fault
-Stops before ended bytes Memory = Unit {0}
-Stops before ended bytes Broken = ⊥
+Stops before at_end bytes (Refused fault) = Decides before at_end bytes fault
+Stops before at_end bytes Memory = Unit {0}
+Stops before at_end bytes Broken = ⊥
 
 -- a file behind those before has no fault, this is the set with its bodies, and so many bytes are in it at most
 pub record HasFile (before : Option SetValue) (bytes : List ℕ) (set : SetValue) : Type 0 where

@@ -14,19 +14,25 @@ unreachable-requires c =
     open_refused c.in-Header.header c.in-Ok.field-0 (ap extent taken.0 ∙ taken.2) c.in-Ok.ensures.value
 
 -- bytes that end within the header decide its fault, or memory ran out
-pub returns-in-Err-clause-answer : goal.returns-in-Err-clause-answer
-returns-in-Err-clause-answer c = λ before bytes old t.
-    let taken = subst (λ r. HasTaken before r bytes) c.in-Header.is t in
-    rw c.header_error.ensures (open_stops before bytes c.in-Err.error taken.2 (subst (λ b. Fails c.in-Err.error (verdict b)) taken.0 c.in-Err.ensures.value))
+pub returns-in-Header : goal.returns-in-Header
+returns-in-Header c = record {
+  answer = λ before bytes old t.
+      let taken = subst (λ r. HasTaken before r bytes) c.in-Header.is t in
+      rw c.header_error.ensures (open_stops before bytes c.in-Err.error taken.2 (subst (λ b. Fails c.in-Err.error (verdict b)) taken.0 c.in-Err.ensures.value));
+}
 
 -- where the rows end well, the set is that of the files before and of this one
-pub returns-in-Ok-finish-clause-answer : goal.returns-in-Ok-finish-clause-answer
-returns-in-Ok-finish-clause-answer c = λ before bytes old t.
-    let taken = subst (λ r. HasTaken before r bytes) c.in-Rows.is t in
-    file_read before c.in-Rows.rows c.in-Rows.set bytes c.in-Ok-finish.field-0 taken c.in-Ok-finish.ensures.ending
+pub returns-in-Ok-finish : goal.returns-in-Ok-finish
+returns-in-Ok-finish c = record {
+  answer = λ before bytes old t.
+      let taken = subst (λ r. HasTaken before r bytes) c.in-Rows.is t in
+      file_read before c.in-Rows.rows c.in-Rows.set bytes c.in-Ok-finish.field-0 taken c.in-Ok-finish.ensures.ending;
+}
 
 -- where the rows end badly, that is the fault of the file
-pub returns-in-Err-finish-clause-answer : goal.returns-in-Err-finish-clause-answer
-returns-in-Err-finish-clause-answer c = λ before bytes old t.
-    let taken = subst (λ r. HasTaken before r bytes) c.in-Rows.is t in
-    file_refused before c.in-Rows.rows c.in-Rows.set bytes c.in-Err-finish.fault taken c.in-Err-finish.ensures.ending
+pub returns : goal.returns
+returns c = record {
+  answer = λ before bytes old t.
+      let taken = subst (λ r. HasTaken before r bytes) c.in-Rows.is t in
+      file_refused before c.in-Rows.rows c.in-Rows.set bytes c.in-Err-finish.fault taken c.in-Err-finish.ensures.ending;
+}
