@@ -1,10 +1,10 @@
 -- Rows that are added one by one.
-use Rattle.std.proofs.Common.{ℕ, suc, ℤ, ◌≡◌, ◌+◌, List, [], ◌∷◌, ◌++◌, length, refl, ap, sym, arith}
+use Rattle.std.proofs.Common.{ℕ, suc, ℤ, ◌≡◌, ◌+◌, List, [], ◌∷◌, ◌++◌, length, refl, ap, sym, ◌∙◌, append_assoc, append-nil, arith}
 use Rattle.std.proofs.lemmas.List.{map-append}
 use Rattle.hot_units.specs.Values.{BodyValue, CubeValue}
 use Rattle.hot_units.specs.declared.raw_row.RawRow.{RawRow}
 use Rattle.body_set.specs.Rows.{body_of_row, weight_of_row}
-use Rattle.body_set.specs.Sets.{SetValue, bodies_from, set_of_rows, with_row, empty_set}
+use Rattle.body_set.specs.Sets.{SetValue, bodies_from, set_of_rows, with_row, with_rows, empty_set}
 use Rattle.body_set.specs.Laws as laws
 
 -- there are as many bodies as rows
@@ -37,6 +37,14 @@ none : (cube : CubeValue) → set_of_rows cube [] ≡ empty_set cube
 unfolding bodies_from
 none cube = refl
 
+-- rows that are added one by one to the set of a list are as if they had stood behind that list
+pub more : (cube : CubeValue) (raws others : List RawRow) → with_rows (set_of_rows cube raws) others ≡ set_of_rows cube (raws ++ others)
+unfolding with_rows
+more cube raws [] = ap (set_of_rows cube) (sym (append-nil raws))
+more cube raws (raw ∷ others) =
+    let e : (raws ++ raw ∷ []) ++ others ≡ raws ++ raw ∷ others = append_assoc raws (raw ∷ []) others in
+    ap (λ (s : SetValue). with_rows s others) (one_more cube raws raw) ∙ (more cube (raws ++ raw ∷ []) others ∙ ap (set_of_rows cube) e)
+
 -- a set to which rows are added one by one is the set of the list of these rows
 pub rows_add_up : laws.RowsAddUp
-rows_add_up = record { none = none; one_more = one_more }
+rows_add_up = record { none = none; one_more = one_more; more = more }

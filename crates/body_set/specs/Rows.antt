@@ -1,11 +1,12 @@
 -- What a row gives, and what may be wrong with it.
-use Rattle.std.specs.Prelude.{ℕ, ◌*◌, ◌-◌, ◌^◌, ℤ, pos, ◌+ℤ◌, ◌-ℤ◌, nat_abs, int_lt, int_le, Bool, ◌&&◌, if◌then◌else◌, nat_lt, List, [], ◌∷◌, ◌++◌, Option, slice_get}
-use Rattle.hot_units.specs.Limits.{fine_bits, max_bodies, max_body_mass, max_work}
+use Rattle.std.specs.Prelude.{ℕ, ◌+◌, ◌*◌, ◌-◌, ◌^◌, ℤ, pos, ◌+ℤ◌, ◌-ℤ◌, nat_abs, int_lt, int_le, Bool, ◌&&◌, if◌then◌else◌, nat_lt, nat_le, List, [], ◌∷◌, ◌++◌, length, Option, slice_get}
+use Rattle.hot_units.specs.Limits.{fine_bits, max_bodies, max_body_mass, max_all_mass, max_work}
 use Rattle.hot_units.specs.Values.{BodyValue, CubeValue}
+use Rattle.hot_units.specs.Bodies.{mass_of}
 use Rattle.hot_units.specs.declared.cube.Axis.TheVariants.{X, Y, Z}
 use Rattle.hot_units.specs.declared.raw_row.RawRow.{RawRow}
 use Rattle.body_set.specs.declared.fault.PushError.{PushError}
-use Rattle.body_set.specs.declared.fault.PushError.TheVariants.{TooMany, Outside, MassRange, WorkRange}
+use Rattle.body_set.specs.declared.fault.PushError.TheVariants.{TooMany, Outside, MassRange, WorkRange, MassSum}
 
 -- the number is one of those from the first to the last
 abbrev pub is_between : ℤ → ℤ → ℤ → Bool
@@ -37,16 +38,26 @@ weight_of_row raw = nat_abs raw.work
 abbrev pub unless : Bool → PushError → List PushError
 unless good fault = if good then [] else fault ∷ []
 
--- all that is wrong with row k, by rank: too many rows, the place on x, y and z, the mass, the work
-abbrev pub faults : CubeValue → ℕ → RawRow → List PushError
-faults cube k raw =
+-- all that is wrong with row k, where the rows before have this mass, by rank: too many rows, the place on x, y and z, the
+-- mass, the work, the mass with that of the rows before
+abbrev pub faults_after : CubeValue → ℕ → ℕ → RawRow → List PushError
+faults_after cube k mass raw =
     unless (nat_lt k max_bodies) TooMany
     ++ unless (is_inside cube.bits cube.x0 raw.x) (Outside k X)
     ++ unless (is_inside cube.bits cube.y0 raw.y) (Outside k Y)
     ++ unless (is_inside cube.bits cube.z0 raw.z) (Outside k Z)
     ++ unless (is_between (pos 1) (pos max_body_mass) raw.mass) (MassRange k)
     ++ unless (is_between (pos 0) (pos max_work) raw.work) (WorkRange k)
+    ++ unless (nat_le (mass + nat_abs raw.mass) max_all_mass) (MassSum k)
 
--- what row k is refused for: the first that is wrong with it
-abbrev pub first_fault : CubeValue → ℕ → RawRow → Option PushError
-first_fault cube k raw = slice_get (faults cube k raw) 0
+-- all that is wrong with a row behind these bodies: its number is how many there are
+abbrev pub faults : CubeValue → List BodyValue → RawRow → List PushError
+faults cube before raw = faults_after cube (length before) (mass_of before) raw
+
+-- what row k is refused for, where the rows before have this mass: the first that is wrong with it
+abbrev pub first_after : CubeValue → ℕ → ℕ → RawRow → Option PushError
+first_after cube k mass raw = slice_get (faults_after cube k mass raw) 0
+
+-- what a row behind these bodies is refused for: the first that is wrong with it
+abbrev pub first_fault : CubeValue → List BodyValue → RawRow → Option PushError
+first_fault cube before raw = slice_get (faults cube before raw) 0

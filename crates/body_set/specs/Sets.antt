@@ -25,6 +25,11 @@ with_row set raw = record set {
   weights = set.weights ++ weight_of_row raw ∷ [];
 }
 
+-- the set with more rows, added one by one
+unfoldable pub with_rows : SetValue → List RawRow → SetValue
+with_rows set [] = set
+with_rows set (raw ∷ raws) = with_rows (with_row set raw) raws
+
 -- the bodies that rows give, numbered from k on
 unfoldable pub bodies_from : CubeValue → ℕ → List RawRow → List BodyValue
 bodies_from cube k [] = []

@@ -1,11 +1,11 @@
-ghost use Rattle.std.specs.Prelude.{◌≡◌, ◌<◌, ◌≤◌, ◌^◌, pos, true, false, nat_abs, IfSome, IfOk};
+ghost use Rattle.std.specs.Prelude.{◌≡◌, ◌<◌, ◌≤◌, ◌+◌, ◌^◌, pos, true, false, nat_abs, IfSome, IfOk};
 ghost use Rattle.std.specs.Prelude.{MatchOption};
-ghost use Rattle.hot_units.specs.Limits.{fine_bits};
+ghost use Rattle.hot_units.specs.Limits.{fine_bits, max_all_mass};
 ghost use Rattle.hot_units.specs.Bodies.{IsBody};
 ghost use Rattle.body_set.specs.Rows as rows;
 
 use crate::PushError;
-use hot_units::limits::{FINE_BITS, MAX_BODIES, MAX_BODY_MASS, MAX_WORK};
+use hot_units::limits::{FINE_BITS, MAX_ALL_MASS, MAX_BODIES, MAX_BODY_MASS, MAX_WORK};
 use hot_units::{Axis, Body, Cube, RawRow, body_of};
 
 /// A coordinate of the file in fine units; None exactly outside the cube. The distance from the
@@ -41,9 +41,11 @@ fn in_range(first: u32, last: u32, n: i128) -> Option<u32>
     }
 }
 
-/// The body and the work weight that row number `row` gives, or the first fault that it has.
-pub fn read_row(cube: Cube, row: u32, raw: &RawRow) -> Result<(Body, u32), PushError>
-    ensures answer { MatchOption (rows.first_fault cube row raw.now)
+/// The body and the work weight that row number `row` gives, where the rows before have the mass
+/// `before`; or the first fault that it has.
+pub fn read_row(cube: Cube, row: u32, before: u64, raw: &RawRow) -> Result<(Body, u32), PushError>
+    requires light { before ≤ max_all_mass }
+    ensures answer { MatchOption (rows.first_after cube row before raw.now)
         (result ≡ Ok (rows.body_of_row cube row raw.now, rows.weight_of_row raw.now))
         (λ f. result ≡ Err f) }
     ensures body { IfOk result (λ p. IsBody p.0) }
@@ -66,6 +68,9 @@ pub fn read_row(cube: Cube, row: u32, raw: &RawRow) -> Result<(Body, u32), PushE
     let Some(work) = in_range(0, MAX_WORK, raw.work) else {
         return Err(PushError::WorkRange { row });
     };
+    if before + u64::from(mass) > MAX_ALL_MASS {
+        return Err(PushError::MassSum { row });
+    }
     let body = body_of(x, y, z, mass, row).unwrap();
     Ok((body, work))
 }

@@ -19,9 +19,12 @@ pub struct BodySet {
     bodies: Vec<Body>,
     idents: Vec<i128>,
     weights: Vec<u32>,
+    mass: u64,
 }
 
 impl Model for BodySet {
+    ghost use Rattle.std.specs.Prelude.{◌≡◌};
+    ghost use Rattle.hot_units.specs.Bodies.{mass_of};
     ghost use Rattle.body_set.specs.Sets.{SetValue};
     ghost use Rattle.key_order.specs.Ordered.{IsSet};
 
@@ -34,7 +37,8 @@ impl Model for BodySet {
       weights = s.weights.items;
     } };
 
-    ghost invariant = { λ s. IsSet s.bodies.items s.idents.items s.weights.items };
+    ghost invariant = { λ s. (IsSet s.bodies.items s.idents.items s.weights.items)
+        × (s.mass ≡ mass_of s.bodies.items) };
 }
 
 // a body with its ident and weight is within 64 bytes
@@ -75,22 +79,24 @@ impl BodySet {
             bodies: Vec::new(alloc),
             idents: Vec::new(alloc),
             weights: Vec::new(alloc),
+            mass: 0,
         }
     }
 
     /// Adds a row as the next one. It is refused for the first that is wrong with it, in this
-    /// order: the set has 262,144 rows; the place is outside the cube on x, on y, on z; the mass is
-    /// not 1 to 4,194,304; the work is not 0 to 2^32 - 1. Memory may run out for a row that is
-    /// good. A refusal leaves the set unchanged.
+    /// order: the set has 1,048,576 rows; the place is outside the cube on x, on y, on z; the mass
+    /// is not 1 to 4,294,967,295; the work is not 0 to 2^32 - 1; the mass with that of all rows
+    /// before is above 2^40. Memory may run out for a row that is good. A refusal leaves the set
+    /// unchanged.
     pub fn push(&mut self, raw: &RawRow) -> Result<(), PushError>
         ensures first_fault { MatchOption
-            (first_fault self.old.cube (length self.old.bodies) raw.now)
+            (first_fault self.old.cube self.old.bodies raw.now)
             (IsOkUnless result PushError.Memory) (λ fault. result ≡ Err fault) }
         ensures pushed { OnOk result (self.new ≡ sets.with_row self.old raw.now) }
         ensures unchanged { OnErr result (self.new ≡ self.old) }
     {
         let row = self.bodies.len() as u32;
-        let (body, weight) = read_row(self.cube, row, raw)?;
+        let (body, weight) = read_row(self.cube, row, self.mass, raw)?;
         append(
             &mut self.bodies,
             &mut self.idents,
@@ -99,10 +105,18 @@ impl BodySet {
             raw.ident,
             weight,
         )?;
+        self.mass += u64::from(body.mass);
         Ok(())
     }
 
-    /// How many rows the set has, at most 262,144. It takes no memory.
+    /// The cube of the set. It takes no memory.
+    pub fn cube(&self) -> Cube
+        ensures value { result ≡ self.now.cube }
+    {
+        self.cube
+    }
+
+    /// How many rows the set has, at most 1,048,576. It takes no memory.
     pub fn len(&self) -> usize
         ensures value { result ≡ length self.now.bodies }
         ensures few { result ≤ max_bodies }
@@ -120,6 +134,7 @@ impl BodySet {
             bodies,
             idents,
             weights,
+            mass: _,
         } = self;
         Ok(in_key_order(bodies, idents, weights))
     }

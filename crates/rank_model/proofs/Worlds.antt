@@ -2,13 +2,13 @@
 use Rattle.std.proofs.Common.{ℕ, ◌≡◌, ◌+◌, ◌-◌, ◌*◌, ◌<◌, ◌≤◌, eqb, ltb, List, length, sum_by, get_or, subst, arith}
 use Rattle.std.proofs.lemmas.Bool.Decides.{nat_tests}
 use Rattle.std.specs.Prelude.{All}
-use Rattle.hot_units.specs.Limits.{max_bodies}
+use Rattle.hot_units.specs.Limits.{max_bodies, max_all_mass}
 use Rattle.hot_units.specs.Values.{BodyValue}
 use Rattle.hot_units.specs.Keys.{contains, key_of_body}
 use Rattle.hot_units.specs.Order.{IsInOrder}
-use Rattle.hot_units.specs.Bodies.{RowsDiffer, IsBody}
+use Rattle.hot_units.specs.Bodies.{mass_of, RowsDiffer, IsBody}
 use Rattle.hot_units.proofs.Digits.{div_rises}
-use Rattle.hot_units.proofs.Bodies.{in_order_filter, sum_filter_more, light_of_few}
+use Rattle.hot_units.proofs.Bodies.{in_order_filter, sum_filter_more}
 use Rattle.rank_model.specs.World.{World, rank_of, IsGood, piece, bodies_in}
 use Rattle.rank_model.specs.Split.{weight_below, counted, split_rank, split_world}
 
@@ -45,8 +45,8 @@ unfolding split_rank
 split_below weight bodies ranks k h = omega (arith, h)
 
 -- bodies in order that are split by weights are a good world
-pub split_good : (weight : BodyValue → ℕ) (bodies : List BodyValue) (ranks leaf : ℕ) → 1 ≤ ranks → All IsBody bodies → IsInOrder bodies → length bodies ≤ max_bodies → All (λ b. b.row < max_bodies) bodies → RowsDiffer bodies → IsGood (split_world weight bodies ranks leaf)
-split_good weight bodies ranks leaf one sound order few rows differ =
+pub split_good : (weight : BodyValue → ℕ) (bodies : List BodyValue) (ranks leaf : ℕ) → 1 ≤ ranks → All IsBody bodies → IsInOrder bodies → length bodies ≤ max_bodies → All (λ b. b.row < max_bodies) bodies → RowsDiffer bodies → mass_of bodies ≤ max_all_mass → IsGood (split_world weight bodies ranks leaf)
+split_good weight bodies ranks leaf one sound order few rows differ light =
     record {
       sound = sound;
       in_order = order;
@@ -55,5 +55,5 @@ split_good weight bodies ranks leaf one sound order few rows differ =
       few = few;
       rows_in = rows;
       rows_differ = differ;
-      light = light_of_few bodies sound few;
+      light = light;
     }
