@@ -1,3 +1,4 @@
 pub mod WordNumbers
 pub mod PlaceSteps
+pub mod FileNames
 pub mod WideRatios

@@ -1,13 +1,14 @@
 -- The faults of words behind a command.
 use Rattle.std.specs.Prelude.{ℕ, ◌+◌, ◌-◌, Bool, not, ◌&&◌, ◌==◌, nat_lt, List, length, codes, if◌then◌else◌, Option, Some, None}
 use Rattle.std.specs.Option.{option_map}
-use Rattle.std.specs.List.{filter_map, range_with_len, slice_get}
+use Rattle.std.specs.List.{filter_map, list_any, range_with_len, slice_get}
 use Rattle.hot_words.specs.declared.table.CommandName.{CommandName}
 use Rattle.hot_words.specs.declared.faults.WordCode.{WordCode}
 use Rattle.hot_words.specs.declared.faults.WordCode.TheVariants.{A3, A4, A5, A6, A7, A8}
 use Rattle.hot_words.specs.declared.faults.WordFault.{WordFault}
 use Rattle.hot_words.specs.Options.{has_option, takes_value, has_file, is_good}
-use Rattle.hot_words.specs.Places.{word_of, is_last, begins_option, stands_as_value, place_before, is_given}
+use Rattle.hot_words.specs.Places.{word_of, is_last, stands_as_value, place_before, is_given, files_place}
+use Rattle.hot_words.specs.Names.{names_at, is_input, is_extra}
 use Rattle.hot_words.specs.Settings.{ratio_given, moments_given}
 
 -- why a value is refused: it is not good for the option before it
@@ -21,27 +22,35 @@ option_fault name words k =
     else (if is_given name words (word_of words k) k then Some A5
     else (if takes_value name (word_of words k) && is_last words k then Some A4 else None))
 
--- why another word is refused: it is not the last, or the command takes no file
-abbrev pub file_fault : CommandName → List (List ℕ) → ℕ → Option WordCode
-file_fault name words k = if has_file name && is_last words k then None else Some A7
+-- why a word before the files is refused
+abbrev pub setting_fault : CommandName → List (List ℕ) → ℕ → Option WordCode
+setting_fault name words k = if stands_as_value name words k then value_fault words k else option_fault name words k
+
+-- why a word is refused from the first file on: the command takes no files, or it is a word too many
+abbrev pub file_fault : CommandName → List (List ℕ) → ℕ → ℕ → Option WordCode
+file_fault name words first k =
+    if has_file name && not (is_extra (k - first) (list_any is_input (names_at first (k - first) words)) (word_of words k)) then None else Some A7
+
+-- why the word at a place is refused, where the files begin here
+abbrev pub code_by : CommandName → List (List ℕ) → Option ℕ → ℕ → Option WordCode
+code_by name words None k = setting_fault name words k
+code_by name words (Some first) k = if nat_lt k first then setting_fault name words k else file_fault name words first k
 
 -- why the word at a place is refused
 abbrev pub code_of : CommandName → List (List ℕ) → ℕ → Option WordCode
-code_of name words k =
-    if stands_as_value name words k then value_fault words k
-    else (if begins_option (word_of words k) then option_fault name words k else file_fault name words k)
+code_of name words k = code_by name words (files_place name words) k
 
 -- the fault of the word at a place
 abbrev pub fault_of : CommandName → List (List ℕ) → ℕ → Option WordFault
 fault_of name words k = option_map (λ code. record { code = code; place = k }) (code_of name words k)
 
--- the faults of the words behind the command, from the left
-abbrev pub faults_of : CommandName → List (List ℕ) → List WordFault
-faults_of name words = filter_map (fault_of name words) (range_with_len 1 (length words - 1))
+-- the faults of the words from a place on, from the left
+abbrev pub faults_from : CommandName → List (List ℕ) → ℕ → List WordFault
+faults_from name words k = filter_map (fault_of name words) (range_with_len k (length words - k))
 
--- the first of them
+-- the first fault of the words behind the command
 abbrev pub fault_listed : CommandName → List (List ℕ) → Option WordFault
-fault_listed name words = slice_get (faults_of name words) 0
+fault_listed name words = slice_get (faults_from name words 1) 0
 
 -- whether the ratio is above 1 with second moments
 abbrev pub is_too_wide : CommandName → List (List ℕ) → Bool

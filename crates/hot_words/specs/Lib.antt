@@ -1,6 +1,7 @@
 pub mod Numbers
 pub mod Options
 pub mod Places
+pub mod Names
 pub mod Faults
 pub mod Settings
 pub mod Commands

@@ -4,7 +4,7 @@ use Rattle.std.specs.Option.{option_map}
 use Rattle.std.specs.Str.{all_ascii_digits, bytes_eq}
 use Rattle.std.specs.Str.Parse.{digits_value}
 use Rattle.std.specs.List.{before_first, after_first}
-use Rattle.hot_units.specs.Limits.{max_ranks, max_leaf, max_bodies, max_ratio, max_softening}
+use Rattle.hot_units.specs.Limits.{max_ranks, max_leaf, max_generated, max_ratio, max_softening}
 use Rattle.hot_units.specs.declared.mail.Mail.{Mail}
 use Rattle.hot_units.specs.declared.mail.Mail.TheVariants.{Prompt, Last, Single, Seeded}
 use Rattle.fixed_kernel.specs.Ratio.{RatioValue}
@@ -40,7 +40,7 @@ moments_of word = within 1 2 (number_of word)
 
 -- how many bodies are made
 abbrev pub bodies_of : List ℕ → Option ℕ
-bodies_of word = within 0 max_bodies (number_of word)
+bodies_of word = within 0 max_generated (number_of word)
 
 -- a softening
 abbrev pub softening_of : List ℕ → Option ℕ

@@ -1,5 +1,5 @@
--- The words by their places, counted from 0: which are options, and which are values of options.
-use Rattle.std.specs.Prelude.{ℕ, zero, suc, ◌+◌, Bool, false, not, ◌&&◌, ◌==◌, nat_eq, List, [], length, slice_index_or, Option, is_some, codes}
+-- The words by their places, counted from 0: which are options, which are values of options, and where the files begin.
+use Rattle.std.specs.Prelude.{ℕ, zero, suc, ◌+◌, Bool, false, not, ◌&&◌, ◌==◌, nat_eq, List, [], length, ◌-◌, slice_index_or, Option, is_some, codes}
 use Rattle.std.specs.Option.{option_map}
 use Rattle.std.specs.List.{find, starts_with, range_with_len}
 use Rattle.std.specs.Str.{bytes_eq}
@@ -22,6 +22,14 @@ begins_option word = starts_with nat_eq word (codes "--")
 abbrev pub stands_as_value : CommandName → List (List ℕ) → ℕ → Bool
 stands_as_value name words zero = false
 stands_as_value name words (suc k) = takes_value name (word_of words k) && not (stands_as_value name words k)
+
+-- whether the files may begin at a place: it holds neither a value nor a word that looks like an option
+abbrev pub begins_files : CommandName → List (List ℕ) → ℕ → Bool
+begins_files name words k = not (stands_as_value name words k) && not (begins_option (word_of words k))
+
+-- the first such place behind the command: from there on all words are files
+abbrev pub files_place : CommandName → List (List ℕ) → Option ℕ
+files_place name words = find (begins_files name words) (range_with_len 1 (length words - 1))
 
 -- whether a place holds an option of this name
 abbrev pub holds_option : CommandName → List (List ℕ) → List ℕ → ℕ → Bool

@@ -1,12 +1,12 @@
 -- What the options of words say, each by its value or by its default.
-use Rattle.std.specs.Prelude.{ℕ, ◌-◌, Bool, false, not, ◌&&◌, nat_lt, List, length, if◌then◌else◌, Option, codes}
+use Rattle.std.specs.Prelude.{ℕ, ◌-◌, Bool, false, List, length, Option, Some, None, codes}
 use Rattle.std.specs.Option.{option_and_then, unwrap_or}
 use Rattle.hot_units.specs.declared.mail.Mail.{Mail}
 use Rattle.hot_units.specs.declared.mail.Mail.TheVariants.{Prompt}
 use Rattle.fixed_kernel.specs.Ratio.{RatioValue}
 use Rattle.hot_words.specs.declared.table.CommandName.{CommandName}
 use Rattle.hot_words.specs.Numbers.{number_of, ranks_of, leaf_of, moments_of, bodies_of, softening_of, ratio_of, mail_of, form_of}
-use Rattle.hot_words.specs.Places.{word_of, begins_option, stands_as_value, is_given, value_of}
+use Rattle.hot_words.specs.Places.{is_given, value_of, files_place}
 
 -- what the value of an option says; the default where there is none, or where it is not good, which is a fault
 abbrev pub setting_of : {A : Type 0} → (List ℕ → Option A) → A → Option (List ℕ) → A
@@ -52,10 +52,11 @@ bodies_given name words = setting_of bodies_of 1000 (value_of name words (codes 
 abbrev pub seed_given : CommandName → List (List ℕ) → ℕ
 seed_given name words = setting_of number_of 0 (value_of name words (codes "--seed"))
 
--- whether a place behind the command holds neither an option nor a value
-abbrev pub holds_file : CommandName → List (List ℕ) → ℕ → Bool
-holds_file name words k = nat_lt 0 k && not (stands_as_value name words k) && not (begins_option (word_of words k))
+-- from the first file on, how many words there are: none where there is no file
+abbrev pub files_behind : Option ℕ → ℕ → ℕ × ℕ
+files_behind None len = (0, 0)
+files_behind (Some first) len = (first, len - first)
 
--- the file: the last word, where it is neither an option nor a value, and else standard input
-abbrev pub file_given : CommandName → List (List ℕ) → List ℕ
-file_given name words = if holds_file name words (length words - 1) then word_of words (length words - 1) else codes "-"
+-- the place of the first file, and how many files there are; 0 and 0 without a file
+abbrev pub files_given : CommandName → List (List ℕ) → ℕ × ℕ
+files_given name words = files_behind (files_place name words) (length words)

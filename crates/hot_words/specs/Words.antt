@@ -1,17 +1,17 @@
 -- The command that words give, or their refusal.
-use Rattle.std.specs.Prelude.{ℕ, Bool, false, List, [], ◌∷◌, Option, Some, None, Result, Ok, Err, codes}
+use Rattle.std.specs.Prelude.{ℕ, Bool, false, List, [], ◌∷◌, Option, Some, None, Result, Ok, Err}
 use Rattle.hot_words.specs.declared.table.CommandName.{CommandName}
 use Rattle.hot_words.specs.declared.table.CommandName.TheVariants.{Forces, Split, Make, Sample}
 use Rattle.hot_words.specs.declared.faults.WordFault.{WordFault}
 use Rattle.hot_words.specs.declared.faults.WordCode.TheVariants.{A1, A2}
 use Rattle.hot_words.specs.Options.{command_named}
 use Rattle.hot_words.specs.Faults.{fault_first}
-use Rattle.hot_words.specs.Settings.{ranks_given, ratio_given, softening_given, leaf_given, moments_given, mail_given, sdf_given, report_given, bodies_given, seed_given, file_given}
+use Rattle.hot_words.specs.Settings.{ranks_given, ratio_given, softening_given, leaf_given, moments_given, mail_given, sdf_given, report_given, bodies_given, seed_given, files_given}
 use Rattle.hot_words.specs.Commands.{JobValue, CommandValue, forces, split, make, sample}
 
--- a run by its options, with the form of its output, a report and a file
-abbrev pub job_of : CommandName → List (List ℕ) → Bool → Bool → List ℕ → JobValue
-job_of name words sdf report file = record {
+-- a run by its options, with the form of its output, a report, and the place and number of its files
+abbrev pub job_of : CommandName → List (List ℕ) → Bool → Bool → ℕ → ℕ → JobValue
+job_of name words sdf report first files = record {
   ranks = ranks_given name words;
   ratio = ratio_given name words;
   eps = softening_given name words;
@@ -20,15 +20,18 @@ job_of name words sdf report file = record {
   mail = mail_given name words;
   sdf = sdf;
   report = report;
-  file = file;
+  first = first;
+  files = files;
 }
 
 -- the command that words without a fault give
 abbrev pub command_by : CommandName → List (List ℕ) → CommandValue
-command_by Forces words = forces (job_of Forces words (sdf_given Forces words) (report_given Forces words) (file_given Forces words))
-command_by Split words = split (ranks_given Split words) (file_given Split words)
+command_by Forces words =
+    let files = files_given Forces words in
+    forces (job_of Forces words (sdf_given Forces words) (report_given Forces words) files.0 files.1)
+command_by Split words = let files = files_given Split words in split (ranks_given Split words) files.0 files.1
 command_by Make words = make (bodies_given Make words) (seed_given Make words)
-command_by Sample words = sample (bodies_given Sample words) (seed_given Sample words) (job_of Sample words false false (codes "-"))
+command_by Sample words = sample (bodies_given Sample words) (seed_given Sample words) (job_of Sample words false false 0 0)
 
 -- the first fault, or else the command
 abbrev pub unless_fault : Option WordFault → CommandValue → Result CommandValue WordFault

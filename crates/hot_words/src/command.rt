@@ -1,28 +1,30 @@
 // The command that words without a fault give.
 ghost use Rattle.std.specs.Prelude.{◌≡◌, ◌≤◌, None};
-ghost use Rattle.hot_words.specs.Commands.{job_value, command_value, IsWithinLimits};
+ghost use Rattle.hot_words.specs.Commands.{job_value, command_value, IsWithinLimits, IsNamed};
 ghost use Rattle.hot_words.specs.Words.{job_of, command_by};
 ghost use Rattle.hot_words.specs.Faults.{fault_first};
 ghost use Rattle.hot_words.specs.Settings.{ratio_given, moments_given};
 
 use crate::job::{Command, Job};
 use crate::settings::{
-    bodies, file, has_report, is_sdf, leaf, mail, moments, ranks, ratio, seed, softening,
+    bodies, files, has_report, is_sdf, leaf, mail, moments, ranks, ratio, seed, softening,
 };
 use crate::table::CommandName;
 use crate::word_list::WordList;
 
-/// A run by its options, with the form of its output, a report and a file.
-fn make_job<'a>(
+/// A run by its options, with the form of its output, a report, and the place and number of its
+/// files.
+fn make_job(
     name: CommandName,
-    words: &'a WordList,
+    words: &WordList,
     sdf: bool,
     report: bool,
-    file: &'a str,
-) -> Job<'a>
+    first: usize,
+    files: usize,
+) -> Job
     requires wide { moments_given name words.now ≡ 2
         → (ratio_given name words.now).num ≤ (ratio_given name words.now).den }
-    ensures { job_value result ≡ job_of name words.now sdf report file.now }
+    ensures { job_value result ≡ job_of name words.now sdf report first files }
 {
     Job {
         ranks: ranks(name, words),
@@ -33,31 +35,32 @@ fn make_job<'a>(
         mail: mail(name, words),
         sdf,
         report,
-        file,
+        first,
+        files,
     }
 }
 
-/// The command of this name, by its options and its file.
-pub fn make_command<'a>(name: CommandName, words: &'a WordList) -> Command<'a>
+/// The command of this name, by its options and its files.
+pub fn make_command(name: CommandName, words: &WordList) -> Command
     requires faultless { fault_first name words.now ≡ None }
     ensures value { command_value result ≡ command_by name words.now }
     ensures limits { IsWithinLimits result }
+    ensures files { IsNamed words.now result }
 {
     match name {
         CommandName::Forces => {
-            let job = make_job(
-                name,
-                words,
-                is_sdf(name, words),
-                has_report(name, words),
-                file(name, words),
-            );
-            Command::Forces(job)
+            let (first, files) = files(name, words);
+            let (sdf, report) = (is_sdf(name, words), has_report(name, words));
+            Command::Forces(make_job(name, words, sdf, report, first, files))
         }
-        CommandName::Split => Command::Split {
-            ranks: ranks(name, words),
-            file: file(name, words),
-        },
+        CommandName::Split => {
+            let (first, files) = files(name, words);
+            Command::Split {
+                ranks: ranks(name, words),
+                first,
+                files,
+            }
+        }
         CommandName::Make => Command::Make {
             bodies: bodies(name, words),
             seed: seed(name, words),
@@ -65,7 +68,7 @@ pub fn make_command<'a>(name: CommandName, words: &'a WordList) -> Command<'a>
         CommandName::Sample => Command::Sample {
             bodies: bodies(name, words),
             seed: seed(name, words),
-            job: make_job(name, words, false, false, "-"),
+            job: make_job(name, words, false, false, 0, 0),
         },
     }
 }

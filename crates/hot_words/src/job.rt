@@ -8,9 +8,10 @@ use hot_units::Mail;
 /// The numbers and choices of a run: ranks, 1 to 64; the opening ratio; the softening; the most
 /// bodies of a leaf, 1 to 64; the order of the moments by which a cell acts, 1 or 2, and 2 only
 /// where the ratio is at most 1; how letters are handed out; whether the output is SDF, and not
-/// text; whether a report is asked for; and the file, where `-` is standard input.
+/// text; whether a report is asked for; the place of the first word that names a file, counted from
+/// 0 at the command; and how many words name files, both 0 where none does.
 #[derive(Drop)]
-pub struct Job<'a> {
+pub struct Job {
     pub ranks: u32,
     pub ratio: Ratio,
     pub eps: Eps,
@@ -19,22 +20,25 @@ pub struct Job<'a> {
     pub mail: Mail,
     pub sdf: bool,
     pub report: bool,
-    pub file: &'a str,
+    pub first: usize,
+    pub files: usize,
     ghost ranks_in: { (1 ≤ ranks) × (ranks ≤ max_ranks) },
     ghost leaf_in: { (1 ≤ leaf) × (leaf ≤ max_leaf) },
     ghost moments_in: { (1 ≤ moments) × (moments ≤ 2) },
     ghost ratio_in: { moments ≡ 2 → ratio.num ≤ ratio.den },
 }
 
-/// What the program is to do: print the forces on the bodies of a file; print how a file's bodies
+/// What the program is to do: print the forces on the bodies of files; print how the bodies of files
 /// are split by ranks, 1 to 64; write a file of so many generated bodies, at most 262,144; or run
-/// on such bodies.
+/// on such bodies. Files are named by the place of the first word that names one, and their number,
+/// both 0 where no word does.
 #[derive(Drop)]
-pub enum Command<'a> {
-    Forces(Job<'a>),
+pub enum Command {
+    Forces(Job),
     Split {
         ranks: u32,
-        file: &'a str,
+        first: usize,
+        files: usize,
     },
     Make {
         bodies: u32,
@@ -43,6 +47,6 @@ pub enum Command<'a> {
     Sample {
         bodies: u32,
         seed: u64,
-        job: Job<'a>,
+        job: Job,
     },
 }

@@ -8,7 +8,7 @@ ghost use Rattle.hot_words.specs.Numbers.{is_slash};
 
 use fixed_kernel::{Eps, Ratio};
 use hot_units::Mail;
-use hot_units::limits::{MAX_BODIES, MAX_LEAF, MAX_RANKS, MAX_RATIO, MAX_SOFTENING};
+use hot_units::limits::{MAX_GENERATED, MAX_LEAF, MAX_RANKS, MAX_RATIO, MAX_SOFTENING};
 
 /// The most digits that a number may have.
 const MAX_DIGITS: usize = 20;
@@ -76,7 +76,7 @@ pub fn read_moments(word: &str) -> Option<u32>
 pub fn read_bodies(word: &str) -> Option<u32>
     ensures value { result ≡ bodies_of word.now }
 {
-    read_within(word, 0, MAX_BODIES)
+    read_within(word, 0, MAX_GENERATED)
 }
 
 /// A softening, 1 to 268,435,456; None exactly where the word is no such number.

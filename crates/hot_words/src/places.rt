@@ -1,6 +1,9 @@
 // The words by their places.
-ghost use Rattle.std.specs.Prelude.{◌≡◌, ◌<◌, IfSome, MatchOption, Some, None};
-ghost use Rattle.hot_words.specs.Places.{word_of, begins_option, stands_as_value, place_before};
+ghost use Rattle.std.specs.Prelude.{◌≡◌, ◌<◌, ◌+◌, not, ◌&&◌, length, IfSome, MatchOption, Some};
+ghost use Rattle.std.specs.Prelude.{None};
+ghost use Rattle.std.specs.Str.{bytes_eq};
+ghost use Rattle.hot_words.specs.Places.{word_of, begins_option, stands_as_value};
+ghost use Rattle.hot_words.specs.Places.{place_before, files_place};
 ghost use Rattle.hot_words.specs.Places.{value_of, is_last};
 
 use crate::table::{CommandName, wants_value};
@@ -30,15 +33,26 @@ pub fn has_dashes(word: &str) -> bool
     word.as_bytes().starts_with(b"--")
 }
 
-/// Whether the word at a place is the value of the option before it.
-pub fn holds_value(name: CommandName, words: &WordList, place: usize) -> bool
-    ensures { result ≡ stands_as_value name words.now place }
+/// Whether the place behind a place holds a value, where that is known of the place itself.
+pub fn value_follows(name: CommandName, words: &WordList, place: usize, is_value: bool) -> bool
+    requires { is_value ≡ stands_as_value name words.now place }
+    ensures { result ≡ stands_as_value name words.now (place + 1) }
 {
-    let mut is_value = false;
-    for before in 0..place {
-        is_value = wants_value(name, word_at(words, before)) && !is_value;
-    }
-    is_value
+    wants_value(name, word_at(words, place)) && !is_value
+}
+
+/// Whether the files may begin at a place, where it is known whether it holds a value.
+pub fn may_begin_files(words: &WordList, place: usize, is_value: bool) -> bool
+    ensures { result ≡ (not is_value && not (begins_option (word_of words.now place))) }
+{
+    !is_value && !has_dashes(word_at(words, place))
+}
+
+/// Whether a place holds the option, where it is known whether it holds a value.
+fn holds_option(words: &WordList, place: usize, option: &str, is_value: bool) -> bool
+    ensures { result ≡ (bytes_eq (word_of words.now place) option.now && not is_value) }
+{
+    word_at(words, place) == option && !is_value
 }
 
 /// The first place before `end` that holds the option.
@@ -48,11 +62,26 @@ pub fn find_option(name: CommandName, words: &WordList, option: &str, end: usize
 {
     let mut is_value = false;
     for place in 0..end {
-        let word = word_at(words, place);
-        if word == option && !is_value {
+        if holds_option(words, place, option, is_value) {
             return Some(place);
         }
-        is_value = wants_value(name, word) && !is_value;
+        is_value = value_follows(name, words, place, is_value);
+    }
+    None
+}
+
+/// The place of the first file behind the command, where there is one: the first word that is no
+/// value and does not look like an option.
+pub fn find_file(name: CommandName, words: &WordList) -> Option<usize>
+    ensures first { result ≡ files_place name words.now }
+    ensures within { IfSome result (λ place. place < length words.now) }
+{
+    let mut is_value = value_follows(name, words, 0, false);
+    for place in 1..words.len() {
+        if may_begin_files(words, place, is_value) {
+            return Some(place);
+        }
+        is_value = value_follows(name, words, place, is_value);
     }
     None
 }

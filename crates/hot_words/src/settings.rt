@@ -1,16 +1,16 @@
 // What the options of words say. A value that is not good is a fault, so it never comes to its
 // default in a command.
 ghost use Rattle.std.specs.Prelude.{◌≡◌, ◌≤◌};
-ghost use Rattle.hot_units.specs.Limits.{max_ranks, max_leaf, max_bodies};
+ghost use Rattle.hot_units.specs.Limits.{max_ranks, max_leaf, max_generated};
 ghost use Rattle.hot_words.specs.Settings.{ranks_given, ratio_given, softening_given, leaf_given};
 ghost use Rattle.hot_words.specs.Settings.{moments_given, mail_given, sdf_given, report_given};
-ghost use Rattle.hot_words.specs.Settings.{bodies_given, seed_given, file_given};
+ghost use Rattle.hot_words.specs.Settings.{bodies_given, seed_given, files_given};
 
 use crate::numbers::{
     read_bodies, read_eps, read_form, read_leaf, read_mail, read_moments, read_number, read_ranks,
     read_ratio,
 };
-use crate::places::{find_option, find_value, has_dashes, holds_value, word_at};
+use crate::places::{find_file, find_option, find_value};
 use crate::table::CommandName;
 use crate::word_list::WordList;
 use fixed_kernel::{Eps, Ratio};
@@ -105,7 +105,7 @@ pub fn has_report(name: CommandName, words: &WordList) -> bool
 /// How many bodies are made: 1000 by default.
 pub fn bodies(name: CommandName, words: &WordList) -> u32
     ensures value { result ≡ bodies_given name words.now }
-    ensures limit { result ≤ max_bodies }
+    ensures limit { result ≤ max_generated }
 {
     match find_value(name, words, "--bodies") {
         Some(value) => read_bodies(value).unwrap_or(1000),
@@ -123,19 +123,12 @@ pub fn seed(name: CommandName, words: &WordList) -> u64
     }
 }
 
-/// The file: the last word, where it is neither an option nor a value, and else `-`, standard
-/// input.
-pub fn file(name: CommandName, words: &WordList) -> &str
-    ensures value { result.now ≡ file_given name words.now }
+/// The place of the first file, and how many files there are: 0 and 0 without a file.
+pub fn files(name: CommandName, words: &WordList) -> (usize, usize)
+    ensures value { result ≡ files_given name words.now }
 {
-    if words.len() < 2 {
-        return "-";
-    }
-    let last = words.len() - 1;
-    let word = word_at(words, last);
-    if !holds_value(name, words, last) && !has_dashes(word) {
-        word
-    } else {
-        "-"
+    match find_file(name, words) {
+        Some(first) => (first, words.len() - first),
+        None => (0, 0),
     }
 }

@@ -1,6 +1,6 @@
 // What the words say.
 ghost use Rattle.std.specs.Prelude.{◌≡◌, ◌≢◌, ◌<◌, length, MatchResult, IfOk, IfErr, Ok, Err};
-ghost use Rattle.hot_words.specs.Commands.{command_value, IsWithinLimits};
+ghost use Rattle.hot_words.specs.Commands.{command_value, IsWithinLimits, IsNamed};
 ghost use Rattle.hot_words.specs.Words.{command_of};
 
 use crate::command::make_command;
@@ -11,8 +11,10 @@ use crate::word_list::WordList;
 
 /// The command that the words give, or the first refusal from the left. The first word is the
 /// command: `forces`, `split`, `make` or `sample`. Behind it stand its options, each at most once
-/// and in any order, and for `forces` and `split` a file as the last word (standard input where
-/// there is none). It takes no memory.
+/// and in any order. For `forces` and `split` the first word that does not begin with `--`, where an
+/// option could stand, begins the list of files, and all words from it on are files: at most 16,
+/// none begins with `--`, and `-`, standard input, is at most one of them. Without a file the place
+/// and the number of the files are 0, and standard input is meant. It takes no memory.
 ///
 /// All commands but `make` have `--ranks N` (1 to 64; 1). `forces` and `sample` have `--theta N/N`
 /// (0 to 1,024 over 1 to 1,024; 7/10), `--eps N` (1 to 268,435,456; 256), `--leaf N` (1 to 64; 8),
@@ -20,11 +22,12 @@ use crate::word_list::WordList;
 /// `single`, or the number of a seed; `prompt`). `forces` has `--form` (`text` or `sdf`; `text`)
 /// and `--report`. `make` and `sample` have `--bodies N` (0 to 262,144; 1000) and `--seed N` (0). N
 /// is 1 to 20 ASCII digits whose value fits 64 bits.
-pub fn read_words<'a>(words: &'a WordList) -> Result<Command<'a>, WordFault>
+pub fn read_words(words: &WordList) -> Result<Command, WordFault>
     ensures value { MatchResult result
         (λ command. command_of words.now ≡ Ok (command_value command))
         (λ fault. command_of words.now ≡ Err fault) }
     ensures limits { IfOk result IsWithinLimits }
+    ensures files { IfOk result (λ command. IsNamed words.now command) }
     ensures placed { IfErr result
         (λ fault. fault.code ≢ WordCode.A1 → fault.place < length words.now) }
 {

@@ -1,12 +1,28 @@
-use Rattle.std.proofs.Common.{arith}
-use Rattle.hot_words.proofs.PlaceSteps.{stands-behind, stands-else, fault-found, faults-passed}
+use Rattle.std.proofs.Common.{List, ◌∙◌, sym, ap, arith}
+use Rattle.std.specs.List.{slice_get}
+use Rattle.hot_words.specs.declared.faults.WordFault.{WordFault}
+use Rattle.hot_words.specs.Places.{begins_files}
+use Rattle.hot_words.proofs.PlaceSteps.{begins-by, files-here, find-passed, code-passed, fault-here, faults-passed}
 use Rattle.hot_words.proofs.faults.first_word_fault.Goals as goal
-use Rattle.hot_words.proofs.faults.first_word_fault.Goals.{then-wants_value, else-wants_value}
 
--- a fault at a place with none before it is the first fault of the words
+-- where the files may begin, they do
+pub first_file_fault-requires : goal.first_file_fault-requires
+first_file_fault-requires c =
+    let name = c.args.name in
+    let words = c.args.words.now in
+    let k = c.loop-place.place in
+    let here = begins-by name words k c.loop-place.holds_value _ _ c.loop-place.invariant.value c.may_begin_files.ensures c.if-may_begin_files.true in
+    record { files = files-here name words k (omega arith) here c.loop-place.invariant.files }
+
+-- a fault at a place before them with none before it is the first fault of the words
 pub returns-in-Some-clause-first : goal.returns-in-Some-clause-first
 returns-in-Some-clause-first c =
-    fault-found c.args.name c.args.words.now c.loop-place.place c.in-Some.code (omega arith) c.in-Some.ensures c.loop-place.invariant.rest
+    let name = c.args.name in
+    let words = c.args.words.now in
+    let k = c.loop-place.place in
+    let passed = begins-by name words k c.loop-place.holds_value _ _ c.loop-place.invariant.value c.may_begin_files.ensures c.if-may_begin_files.false in
+    let code = code-passed name words k (omega arith) passed c.loop-place.invariant.files in
+    fault-here name words k c.in-Some.code (omega arith) (code ∙ sym c.in-Some.ensures) ∙ ap (λ (fs : List WordFault). slice_get fs 0) c.loop-place.invariant.rest
 
 -- a place without a fault is passed
 pub loop-place-preserved : goal.loop-place-preserved
@@ -14,13 +30,10 @@ loop-place-preserved c =
     let name = c.args.name in
     let words = c.args.words.now in
     let k = c.loop-place.place in
-    let word = c.word_at-in-loop-place.result.now in
+    let passed = begins-by name words k c.loop-place.holds_value _ _ c.loop-place.invariant.value c.may_begin_files.ensures c.if-may_begin_files.false in
+    let code = code-passed name words k (omega arith) passed c.loop-place.invariant.files in
     record {
-      value = elim c.if-wants_value.branch [
-        | then-wants_value w ↦ stands-behind name words k word c.loop-place.holds_value c.wants_value.result c.if-wants_value.holds_value
-            c.word_at-in-loop-place.ensures c.loop-place.invariant.value c.wants_value.ensures w.if-wants_value.true w.holds_value-is
-        | else-wants_value w ↦ stands-else name words k word c.wants_value.result c.if-wants_value.holds_value
-            c.word_at-in-loop-place.ensures c.wants_value.ensures w.if-wants_value.false w.holds_value-is
-      ];
-      rest = faults-passed name words k (omega arith) c.in_default.ensures c.loop-place.invariant.rest;
+      value = c.value_follows-holds_value-in-loop-place.ensures;
+      files = find-passed (begins_files name words) k _ (omega arith) passed ∙ c.loop-place.invariant.files;
+      rest = faults-passed name words k (omega arith) (code ∙ sym c.in_default.ensures) ∙ c.loop-place.invariant.rest;
     }
