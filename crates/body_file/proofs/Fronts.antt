@@ -11,16 +11,16 @@ use Rattle.sdf_header.specs.Layouts.{LayoutValue}
 use Rattle.sdf_header.specs.Extent.{Extent, Faulty, Ends, Open, extent, agrees, magic, closes, line_behind, Shows, Scans}
 use Rattle.sdf_header.proofs.Bytes.{scans_none, no_magic, has_ended, is_full, still_open}
 use Rattle.sdf_header.proofs.Known.{open_now}
-use Rattle.sdf_rows.specs.Rows.{rows, is_beyond_at}
+use Rattle.sdf_rows.specs.Rows.{is_beyond_at}
 use Rattle.sdf_rows.specs.Reading.{RowsValue}
-use Rattle.body_set.specs.Sets.{SetValue}
+use Rattle.body_set.specs.Sets.{SetValue, with_rows}
 use Rattle.body_file.specs.declared.fault.FileFault.{FileFault}
 use Rattle.body_file.specs.declared.reader.BodyReader.{BodyReader}
 use Rattle.body_file.specs.declared.reader.BodyReader.TheVariants as stage
-use Rattle.body_file.specs.Faults.{first_of, first_refused, end_fault, rows_fault, decided}
+use Rattle.body_file.specs.Faults.{first_of, set_before, end_fault, rows_fault, decided_behind}
 use Rattle.body_file.specs.Reading.{IsWholeHeader, IsBehindHeader, HasTaken}
 use Rattle.body_file.proofs.Headers.{decided_by_rows, open_undecided, ends_len}
-use Rattle.body_file.proofs.RowLists.{rows_prefix, refused_append}
+use Rattle.body_file.proofs.RowLists.{rows_behind, rows_prefix, refused_behind, refused_append}
 use Rattle.body_file.proofs.RowSteps.{none_of, rows_good}
 use Rattle.body_file.proofs.RowCounts.{none_beyond_now}
 
@@ -105,18 +105,20 @@ within_front : (count : Option ℕ) (w a b : ℕ) → a ≤ b → is_beyond_at c
 within_front None w a b le e = refl
 within_front (Some n) w a b le e = let short = ltb-false (n * w) b e in le-ltb (n * w) a (omega (arith, le, short))
 
-end_good : (l : LayoutValue) (bytes : List ℕ) → is_beyond_at l.count l.width (length bytes) ≡ false → end_fault false l bytes ≡ None
-end_good l bytes within = rw within refl
+end_good : (first : ℕ) (l : LayoutValue) (bytes : List ℕ) → is_beyond_at l.count l.width (length bytes) ≡ false → end_fault first false l bytes ≡ None
+end_good first l bytes within = rw within refl
 
 -- where rows decide no fault, no front of them does
-rows_front : (l : LayoutValue) (bytes more : List ℕ) → 1 ≤ l.width → rows_fault false l (bytes ++ more) ≡ None → rows_fault false l bytes ≡ None
-rows_front l bytes more wide good =
-    let p = rows_prefix l bytes more wide in
-    let all : first_refused l.cube 0 (rows l bytes ++ p.0) ≡ None = ap (first_refused l.cube 0) (sym p.1) ∙ rows_good l (bytes ++ more) good in
-    let parts = none_of (first_refused l.cube 0 (rows l bytes)) (first_refused l.cube (0 + length (rows l bytes)) p.0) (sym (refused_append l.cube 0 (rows l bytes) p.0) ∙ all) in
+rows_front : (before : SetValue) (l : LayoutValue) (bytes more : List ℕ) → 1 ≤ l.width → rows_fault before false l (bytes ++ more) ≡ None → rows_fault before false l bytes ≡ None
+rows_front before l bytes more wide good =
+    let first = length before.bodies in
+    let old = rows_behind before l bytes in
+    let p = rows_prefix l first bytes more wide in
+    let all : refused_behind before (old ++ p.0) ≡ None = ap (refused_behind before) (sym p.1) ∙ rows_good before l (bytes ++ more) good in
+    let parts = none_of (refused_behind before old) (refused_behind (with_rows before old) p.0) (sym (refused_append before old p.0) ∙ all) in
     let le : length bytes ≤ length (bytes ++ more) = omega (arith, length-append bytes more) in
-    let within = within_front l.count l.width (length bytes) (length (bytes ++ more)) le (none_beyond_now l (bytes ++ more) good) in
-    ap (λ (o : Option FileFault). first_of o (end_fault false l bytes)) parts.0 ∙ end_good l bytes within
+    let within = within_front l.count l.width (length bytes) (length (bytes ++ more)) le (none_beyond_now before l (bytes ++ more) good) in
+    ap (λ (o : Option FileFault). first_of o (end_fault first false l bytes)) parts.0 ∙ end_good first l bytes within
 
 -- ---- the file
 
@@ -136,22 +138,23 @@ cut_at a b c d e le =
     }
 
 -- a front of a header and rows without a fault decides none
-behind_front : (r : RowsValue) (set : SetValue) (bytes more : List ℕ) → IsBehindHeader r set (bytes ++ more) → decided false bytes ≡ None
-behind_front r set bytes more t =
+behind_front : (before : Option SetValue) (r : RowsValue) (set : SetValue) (bytes more : List ℕ) → IsBehindHeader before r set (bytes ++ more) → decided_behind before false bytes ≡ None
+behind_front before r set bytes more t =
+    let old = set_before before t.layout.cube in
     elim (cases_Bool (nat_le (length t.front) (length bytes))) [
       | inl whole ↦
           let cut = cut_at bytes more t.front t.body t.all (leb-true (length t.front) (length bytes) whole) in
-          let good : rows_fault false t.layout (cut.middle ++ more) ≡ None = subst (λ (l : List ℕ). rows_fault false t.layout l ≡ None) cut.shorter t.rows.good in
-          ap (decided false) cut.longer ∙ decided_by_rows t.layout t.front cut.middle false t.header ∙ rows_front t.layout cut.middle more t.rows.sound.some_bytes good
+          let good : rows_fault old false t.layout (cut.middle ++ more) ≡ None = subst (λ (l : List ℕ). rows_fault old false t.layout l ≡ None) cut.shorter t.rows.good in
+          ap (decided_behind before false) cut.longer ∙ decided_by_rows before t.layout t.front cut.middle false t.header t.same ∙ rows_front old t.layout cut.middle more t.rows.sound.some_bytes good
       | inr part ↦
           let less = leb-false (length t.front) (length bytes) part in
           let cut = cut_at t.front t.body bytes more (sym t.all) (omega (arith, less)) in
           let size = ap (λ (l : List ℕ). length l) cut.longer in
           let whole : IsWholeHeader t.header.text (bytes ++ cut.middle) = subst (IsWholeHeader t.header.text) cut.longer t.header.whole in
-          open_undecided bytes (header_front t.header.text bytes cut.middle whole (omega (arith, less, size, length-append bytes cut.middle)))
+          open_undecided before bytes (header_front t.header.text bytes cut.middle whole (omega (arith, less, size, length-append bytes cut.middle)))
     ]
 
 -- a front of what the reader was given decides no fault
-pub front_undecided : (reader : BodyReader) (bytes more : List ℕ) → HasTaken reader (bytes ++ more) → decided false bytes ≡ None
-front_undecided (stage.Header h) bytes more t = open_undecided bytes (open_front bytes more t.1)
-front_undecided (stage.Rows r set) bytes more t = behind_front r set bytes more t
+pub front_undecided : (before : Option SetValue) (reader : BodyReader) (bytes more : List ℕ) → HasTaken before reader (bytes ++ more) → decided_behind before false bytes ≡ None
+front_undecided before (stage.Header h set) bytes more t = open_undecided before bytes (open_front bytes more t.2)
+front_undecided before (stage.Rows r set) bytes more t = behind_front before r set bytes more t

@@ -13,41 +13,51 @@ use Rattle.sdf_header.specs.Extent.{Extent, Faulty, Ends, Open, extent}
 use Rattle.sdf_header.specs.Verdict.{Gives, verdict, verdict_from}
 use Rattle.sdf_header.specs.Reading.{told, taken_of, Settled, ReadAlike}
 use Rattle.body_file.specs.declared.fault.FileFault.{FileFault}
-use Rattle.body_file.specs.declared.fault.FileFault.TheVariants.{Header}
-use Rattle.body_file.specs.Faults.{rows_fault, decided, Decides, header_error}
+use Rattle.body_file.specs.declared.fault.FileFault.TheVariants.{Header, OtherCube}
+use Rattle.body_file.specs.declared.fault.FileError.TheVariants.{Refused}
+use Rattle.body_set.specs.Sets.{SetValue}
+use Rattle.body_file.specs.Faults.{differs, set_before, rows_fault, decided_behind, Decides, header_error}
 use Rattle.body_file.specs.Reading.{IsWholeHeader, IsHeader, Stops}
 
--- behind a header the rows decide
-pub decided_by_rows : (l : LayoutValue) (front body : List ℕ) (ended : Bool) → IsHeader l front → decided ended (front ++ body) ≡ rows_fault ended l body
-unfolding decided
-decided_by_rows l front body ended h =
+-- behind a header, whose cube is that of the files before, the rows decide
+pub decided_by_rows : (before : Option SetValue) (l : LayoutValue) (front body : List ℕ) (ended : Bool) → IsHeader l front → differs before l.cube ≡ false → decided_behind before ended (front ++ body) ≡ rows_fault (set_before before l.cube) ended l body
+unfolding decided_behind
+decided_by_rows before l front body ended h same =
     let whole = (h.whole body).0 in
     let gives = (h.whole body).1 ∙ h.gives in
     let rest : drop l.header_len (front ++ body) ≡ body = ap (λ (n : ℕ). drop n (front ++ body)) h.len ∙ drop-append_seam front body in
-    rw (whole, gives, rest) refl
+    rw (whole, gives, same, rest) refl
+
+-- another cube decides
+pub cube_decides : (before : Option SetValue) (l : LayoutValue) (front more : List ℕ) (ended : Bool) → IsHeader l front → differs before l.cube ≡ true → decided_behind before ended (front ++ more) ≡ Some OtherCube
+unfolding decided_behind
+cube_decides before l front more ended h other =
+    let whole = (h.whole more).0 in
+    let gives = (h.whole more).1 ∙ h.gives in
+    rw (whole, gives, other) refl
 
 -- a whole header at fault decides
-pub header_decides : (text : ℕ) (front more : List ℕ) (ended : Bool) (f : HeaderFault) → IsWholeHeader text front → verdict front ≡ Err f → decided ended (front ++ more) ≡ Some (Header f)
-unfolding decided
-header_decides text front more ended f h e =
+pub header_decides : (before : Option SetValue) (text : ℕ) (front more : List ℕ) (ended : Bool) (f : HeaderFault) → IsWholeHeader text front → verdict front ≡ Err f → decided_behind before ended (front ++ more) ≡ Some (Header f)
+unfolding decided_behind
+header_decides before text front more ended f h e =
     let whole = (h more).0 in
     let fault = (h more).1 ∙ e in
     rw (whole, fault) refl
 
 -- so do bytes that begin no header, or one that is too long
-pub fault_decides : (bytes : List ℕ) (ended : Bool) (f : HeaderFault) → extent bytes ≡ Faulty f → verdict bytes ≡ Err f → decided ended bytes ≡ Some (Header f)
-unfolding decided
-fault_decides bytes ended f e v = rw (e, v) refl
+pub fault_decides : (before : Option SetValue) (bytes : List ℕ) (ended : Bool) (f : HeaderFault) → extent bytes ≡ Faulty f → verdict bytes ≡ Err f → decided_behind before ended bytes ≡ Some (Header f)
+unfolding decided_behind
+fault_decides before bytes ended f e v = rw (e, v) refl
 
 -- a header that goes on decides nothing
-pub open_undecided : (bytes : List ℕ) → extent bytes ≡ Open → decided false bytes ≡ None
-unfolding decided
-open_undecided bytes e = rw e refl
+pub open_undecided : (before : Option SetValue) (bytes : List ℕ) → extent bytes ≡ Open → decided_behind before false bytes ≡ None
+unfolding decided_behind
+open_undecided before bytes e = rw e refl
 
 -- unless the bytes end
-pub open_ended : (bytes : List ℕ) (f : HeaderFault) → extent bytes ≡ Open → verdict bytes ≡ Err f → decided true bytes ≡ Some (Header f)
-unfolding decided
-open_ended bytes f e v = rw (e, v) refl
+pub open_ended : (before : Option SetValue) (bytes : List ℕ) (f : HeaderFault) → extent bytes ≡ Open → verdict bytes ≡ Err f → decided_behind before true bytes ≡ Some (Header f)
+unfolding decided_behind
+open_ended before bytes f e v = rw (e, v) refl
 
 -- bytes whose header goes on give no layout
 pub open_refused : (bytes : List ℕ) (l : LayoutValue) → extent bytes ≡ Open → verdict bytes ≡ Ok l → ⊥
@@ -95,17 +105,22 @@ ended_within old new piece n text h e whole =
     omega (arith, t.3, len, size, sums, sums')
 
 -- a fault that comes with a piece
-pub fed_fault : (old new piece : List ℕ) (f : HeaderFault) → Err f ≡ told (extent (old ++ piece)) (length old) → Settled (Err f) new → ReadAlike new (old ++ piece) → Stops false (old ++ piece) (Rattle.body_file.specs.declared.fault.ReadError.TheVariants.Refused (Header f))
-fed_fault old new piece f h settled same more ended =
-    fault_decides ((old ++ piece) ++ more) ended f (sym (same more).0 ∙ (settled more).0) (sym (same more).1 ∙ (settled more).1)
+pub fed_fault : (before : Option SetValue) (old new piece : List ℕ) (f : HeaderFault) → Err f ≡ told (extent (old ++ piece)) (length old) → Settled (Err f) new → ReadAlike new (old ++ piece) → Stops before false (old ++ piece) (Refused (Header f))
+fed_fault before old new piece f h settled same more ended =
+    fault_decides before ((old ++ piece) ++ more) ended f (sym (same more).0 ∙ (settled more).0) (sym (same more).1 ∙ (settled more).1)
 
 -- a whole header that gives no layout
-pub whole_refused : (text : ℕ) (front more : List ℕ) (e : HeaderError) → IsWholeHeader text front → Gives {Y = LayoutValue} (Err e) (verdict front) → Stops false (front ++ more) (header_error e)
-whole_refused text front more (header.Fault f) whole gives = λ rest ended.
-    ap (decided ended) (append_assoc front more rest) ∙ header_decides text front (more ++ rest) ended f whole gives
-whole_refused text front more header.Memory whole gives = tt
+pub whole_refused : (before : Option SetValue) (text : ℕ) (front more : List ℕ) (e : HeaderError) → IsWholeHeader text front → Gives {Y = LayoutValue} (Err e) (verdict front) → Stops before false (front ++ more) (header_error e)
+whole_refused before text front more (header.Fault f) whole gives = λ rest ended.
+    ap (decided_behind before ended) (append_assoc front more rest) ∙ header_decides before text front (more ++ rest) ended f whole gives
+whole_refused before text front more header.Memory whole gives = tt
+
+-- a whole header with another cube
+pub cube_refused : (before : Option SetValue) (l : LayoutValue) (front more : List ℕ) → IsHeader l front → differs before l.cube ≡ true → Stops before false (front ++ more) (Refused OtherCube)
+cube_refused before l front more h other rest ended =
+    ap (decided_behind before ended) (append_assoc front more rest) ∙ cube_decides before l front (more ++ rest) ended h other
 
 -- the end of a header that goes on
-pub open_stops : (bytes : List ℕ) (error : HeaderError) → extent bytes ≡ Open → Gives {Y = LayoutValue} (Err error) (verdict bytes) → Stops true bytes (header_error error)
-open_stops bytes (header.Fault f) e gives = open_ended bytes f e gives
-open_stops bytes header.Memory e gives = tt
+pub open_stops : (before : Option SetValue) (bytes : List ℕ) (error : HeaderError) → extent bytes ≡ Open → Gives {Y = LayoutValue} (Err error) (verdict bytes) → Stops before true bytes (header_error error)
+open_stops before bytes (header.Fault f) e gives = open_ended before bytes f e gives
+open_stops before bytes header.Memory e gives = tt

@@ -3,8 +3,11 @@ pub mod RowLists
 pub mod RowSteps
 pub mod RowCounts
 pub mod Headers
-pub mod Verdicts
 pub mod Takings
+pub mod Endings
 pub mod Pieces
 pub mod Fronts
 pub mod Readings
+pub mod Lists
+pub mod Verdicts
+pub mod Batches

@@ -10,21 +10,25 @@ use Rattle.sdf_rows.specs.declared.raw_row.RowFault.TheVariants.{Trailing}
 use Rattle.sdf_rows.specs.declared.raw_row.RowStep.{RowStep}
 use Rattle.std.proofs.lemmas.List.Elements.{All-push}
 use Rattle.sdf_rows.specs.Columns.{Is64Bits}
-use Rattle.sdf_rows.specs.Rows.{rows, ending, is_beyond_at}
-use Rattle.sdf_rows.specs.Reading.{RowsValue, IsBehind, is_full, wanted, answer_to, read_of, given_by, row_list}
+use Rattle.sdf_rows.specs.Rows.{rows_from, ending_from, is_beyond_at}
+use Rattle.sdf_rows.specs.Reading.{RowsValue, IsBehind, is_full, wanted, answer_from, read_of, given_by, row_list}
 use Rattle.sdf_header.proofs.Known.{split_piece}
 use Rattle.sdf_rows.proofs.Places.{part_short, rows_lie}
 use Rattle.sdf_rows.proofs.Steps.{none_beyond, part_length, full_rows, all_beyond}
 use Rattle.sdf_rows.proofs.Ends.{ends_beyond}
-use Rattle.body_set.specs.Sets.{SetValue, set_of_rows, with_row, bodies_from}
-use Rattle.body_set.proofs.Adding.{rows_add_up, bodies-length}
+use Rattle.std.specs.Prelude.{MatchOption}
+use Rattle.std.specs.Result.{IsOkUnless}
+use Rattle.body_set.specs.declared.fault.PushError.{PushError}
+use Rattle.body_set.specs.declared.fault.PushError.TheVariants as push
+use Rattle.body_set.specs.Rows.{first_fault}
+use Rattle.body_set.specs.Sets.{SetValue, with_row, with_rows}
 use Rattle.body_file.specs.declared.fault.FileFault.{FileFault}
 use Rattle.body_file.specs.declared.fault.FileFault.TheVariants.{End}
-use Rattle.body_file.specs.declared.fault.ReadError.{ReadError}
-use Rattle.body_file.specs.declared.fault.ReadError.TheVariants.{Broken, Refused, Memory}
-use Rattle.body_file.specs.Faults.{first_of, row_fault, first_refused, ended_by, end_fault, rows_fault}
+use Rattle.body_file.specs.declared.fault.FileError.{FileError}
+use Rattle.body_file.specs.declared.fault.FileError.TheVariants.{Broken, Refused, Memory}
+use Rattle.body_file.specs.Faults.{first_of, row_error, named, row_fault, first_refused, ended_by, end_fault, rows_fault}
 use Rattle.body_file.specs.Reading.{IsAt, PushesRow, StopsRows}
-use Rattle.body_file.proofs.RowLists.{refused_append, refused_push, rows_prefix}
+use Rattle.body_file.proofs.RowLists.{refused_behind, refused_append, refused_push, rows_behind, rows_prefix, rows_one_more}
 
 -- ---- the answer
 
@@ -53,8 +57,8 @@ err_by false true n w row fault e = absurd cc
 err_by false false n w row fault e = absurd cc
 
 -- while a row is wanted, at least one byte is taken
-pub takes_some : (l : LayoutValue) (bytes piece : List ℕ) (step : RowStep) → 1 ≤ l.width → 1 ≤ length piece → answer_to l bytes piece ≡ Ok step → 1 ≤ step.taken
-takes_some l bytes piece step wide some e =
+pub takes_some : (l : LayoutValue) (first : ℕ) (bytes piece : List ℕ) (step : RowStep) → 1 ≤ l.width → 1 ≤ length piece → answer_from l first bytes piece ≡ Ok step → 1 ≤ step.taken
+takes_some l first bytes piece step wide some e =
     let part = part_length l bytes in
     let short = part_short (length bytes) l.width wide in
     elim ((ok_by (is_full l bytes) (length piece) (wanted l bytes) _ step e).1) [
@@ -70,51 +74,82 @@ none_of None b e = (refl, e)
 none_of (Some f) b e = absurd cc
 
 -- bytes without a fault have no row at fault
-pub rows_good : (l : LayoutValue) (bytes : List ℕ) → rows_fault false l bytes ≡ None → first_refused l.cube 0 (rows l bytes) ≡ None
-rows_good l bytes e = (none_of (first_refused l.cube 0 (rows l bytes)) (end_fault false l bytes) e).0
+pub rows_good : (before : SetValue) (l : LayoutValue) (bytes : List ℕ) → rows_fault before false l bytes ≡ None → refused_behind before (rows_behind before l bytes) ≡ None
+rows_good before l bytes e = (none_of (refused_behind before (rows_behind before l bytes)) (end_fault (length before.bodies) false l bytes) e).0
 
 -- nor a byte too many
-pub none_too_many : (l : LayoutValue) (bytes : List ℕ) → rows_fault false l bytes ≡ None → end_fault false l bytes ≡ None
-none_too_many l bytes e = (none_of (first_refused l.cube 0 (rows l bytes)) (end_fault false l bytes) e).1
+pub none_too_many : (before : SetValue) (l : LayoutValue) (bytes : List ℕ) → rows_fault before false l bytes ≡ None → end_fault (length before.bodies) false l bytes ≡ None
+none_too_many before l bytes e = (none_of (refused_behind before (rows_behind before l bytes)) (end_fault (length before.bodies) false l bytes) e).1
 
 -- a row at fault stays the first, whatever follows
-pub refused_stays : (l : LayoutValue) (bytes more : List ℕ) (ended : Bool) (f : FileFault) → 1 ≤ l.width → first_refused l.cube 0 (rows l bytes) ≡ Some f → rows_fault ended l (bytes ++ more) ≡ Some f
-refused_stays l bytes more ended f wide e =
-    let p = rows_prefix l bytes more wide in
-    let rest = end_fault ended l (bytes ++ more) in
-    ap (λ (r : List RawRow). first_of (first_refused l.cube 0 r) rest) p.1
-    ∙ ap (λ (o : Option FileFault). first_of o rest) (refused_append l.cube 0 (rows l bytes) p.0)
-    ∙ ap (λ (o : Option FileFault). first_of (first_of o (first_refused l.cube (0 + length (rows l bytes)) p.0)) rest) e
+pub refused_stays : (before : SetValue) (l : LayoutValue) (bytes more : List ℕ) (ended : Bool) (f : FileFault) → 1 ≤ l.width → refused_behind before (rows_behind before l bytes) ≡ Some f → rows_fault before ended l (bytes ++ more) ≡ Some f
+refused_stays before l bytes more ended f wide e =
+    let p = rows_prefix l (length before.bodies) bytes more wide in
+    let rest = end_fault (length before.bodies) ended l (bytes ++ more) in
+    ap (λ (r : List RawRow). first_of (refused_behind before r) rest) p.1
+    ∙ ap (λ (o : Option FileFault). first_of o rest) (refused_append before (rows_behind before l bytes) p.0)
+    ∙ ap (λ (o : Option FileFault). first_of (first_of o (refused_behind (with_rows before (rows_behind before l bytes)) p.0)) rest) e
 
-end_beyond : (ended : Bool) (l : LayoutValue) (bytes : List ℕ) → is_beyond_at l.count l.width (length bytes) ≡ true → end_fault ended l bytes ≡ Some (End Trailing)
-end_beyond true l bytes h = ap ended_by (ends_beyond l bytes h)
-end_beyond false l bytes h = rw h refl
+end_beyond : (first : ℕ) (ended : Bool) (l : LayoutValue) (bytes : List ℕ) → is_beyond_at l.count l.width (length bytes) ≡ true → end_fault first ended l bytes ≡ Some (End Trailing)
+end_beyond first true l bytes h = ap ended_by (ends_beyond l first bytes h)
+end_beyond first false l bytes h = rw h refl
 
 -- so does a byte too many
-pub trailing_stays : (l : LayoutValue) (bytes piece more : List ℕ) (ended : Bool) → 1 ≤ l.width → 1 ≤ length piece → is_full l bytes ≡ true → first_refused l.cube 0 (rows l bytes) ≡ None → rows_fault ended l ((bytes ++ piece) ++ more) ≡ Some (End Trailing)
-trailing_stays l bytes piece more ended wide some full good =
+pub trailing_stays : (before : SetValue) (l : LayoutValue) (bytes piece more : List ℕ) (ended : Bool) → 1 ≤ l.width → 1 ≤ length piece → is_full l bytes ≡ true → refused_behind before (rows_behind before l bytes) ≡ None → rows_fault before ended l ((bytes ++ piece) ++ more) ≡ Some (End Trailing)
+trailing_stays before l bytes piece more ended wide some full good =
+    let first = length before.bodies in
     let all = append_assoc bytes piece more in
     let sum = length-append bytes (piece ++ more) in
     let sum' = length-append piece more in
     let beyond : is_beyond_at l.count l.width (length (bytes ++ (piece ++ more))) ≡ true = rw sum (all_beyond l.count l.width (length bytes) (length (piece ++ more)) (omega arith) full) in
-    ap (rows_fault ended l) all
-    ∙ ap (λ (r : List RawRow). first_of (first_refused l.cube 0 r) (end_fault ended l (bytes ++ (piece ++ more)))) (full_rows l bytes (piece ++ more) wide full)
-    ∙ ap (λ (o : Option FileFault). first_of o (end_fault ended l (bytes ++ (piece ++ more)))) good
-    ∙ end_beyond ended l (bytes ++ (piece ++ more)) beyond
+    ap (rows_fault before ended l) all
+    ∙ ap (λ (r : List RawRow). first_of (refused_behind before r) (end_fault first ended l (bytes ++ (piece ++ more)))) (full_rows l first bytes (piece ++ more) wide full)
+    ∙ ap (λ (o : Option FileFault). first_of o (end_fault first ended l (bytes ++ (piece ++ more)))) good
+    ∙ end_beyond first ended l (bytes ++ (piece ++ more)) beyond
+
+-- ---- a row that is refused
+
+-- the answer for a refused row says of this fault what it says of the row
+abbrev TellsFault : Option FileFault → FileError → Type 0
+TellsFault fault (Refused f) = fault ≡ Some f
+TellsFault fault Memory = Unit {0}
+TellsFault fault Broken = ⊥
+
+tells_by : (e : PushError) → TellsFault (named (Some e)) (row_error e)
+tells_by push.TooMany = refl
+tells_by (push.Outside row axis) = refl
+tells_by (push.MassRange row) = refl
+tells_by (push.WorkRange row) = refl
+tells_by (push.MassSum row) = refl
+tells_by push.Memory = tt
+
+tells_fault : (o : Option PushError) (e : PushError) → MatchOption o (IsOkUnless {T = Unit {0}} (Err e) push.Memory) (λ f. ◌≡◌ {A = Result (Unit {0}) PushError} (Err e) (Err f)) → TellsFault (named o) (row_error e)
+tells_fault None e h = let m : e ≡ push.Memory = h in rw m tt
+tells_fault (Some f) e h = let m : e ≡ f = cc in rw m (tells_by f)
+
+says_so : (old new : SetValue) (raw : RawRow) (e : FileError) → TellsFault (row_fault old.cube old.bodies raw) e → PushesRow old new raw (Err e)
+says_so old new raw (Refused f) h = h
+says_so old new raw Memory h = tt
+says_so old new raw Broken h = absurd h
+
+-- a row that a set refuses is answered by its fault
+pub row_refused : (old new : SetValue) (raw : RawRow) (e : PushError) → MatchOption (first_fault old.cube old.bodies raw) (IsOkUnless {T = Unit {0}} (Err e) push.Memory) (λ f. ◌≡◌ {A = Result (Unit {0}) PushError} (Err e) (Err f)) → PushesRow old new raw (Err (row_error e))
+row_refused old new raw e h = says_so old new raw (row_error e) (tells_fault (first_fault old.cube old.bodies raw) e h)
 
 -- ---- steps
 
 -- the reader of rows took the front of a piece, up to the end of the current row
-pub record Stepped (l : LayoutValue) (r : RowsValue) (bytes piece : List ℕ) (step : RowStep) : Type 0 where
+pub record Stepped (before : SetValue) (l : LayoutValue) (r : RowsValue) (bytes piece : List ℕ) (step : RowStep) : Type 0 where
   pub layout : r.layout ≡ l
+  pub first : r.first ≡ length before.bodies
   pub lacks : is_full l bytes ≡ false
   pub few : step.taken ≤ wanted l bytes
   pub behind : IsBehind r (bytes ++ take step.taken piece)
-  pub grown : rows l (bytes ++ take step.taken piece) ≡ rows l bytes ++ row_list step.row
+  pub grown : rows_behind before l (bytes ++ take step.taken piece) ≡ rows_behind before l bytes ++ row_list step.row
 
 -- no byte too many was taken
-within_step : (l : LayoutValue) (bytes piece : List ℕ) (t : ℕ) → 1 ≤ l.width → is_full l bytes ≡ false → t ≤ wanted l bytes → end_fault false l (bytes ++ take t piece) ≡ None
-within_step l bytes piece t wide lacks few =
+within_step : (first : ℕ) (l : LayoutValue) (bytes piece : List ℕ) (t : ℕ) → 1 ≤ l.width → is_full l bytes ≡ false → t ≤ wanted l bytes → end_fault first false l (bytes ++ take t piece) ≡ None
+within_step first l bytes piece t wide lacks few =
     let sum = length-append bytes (take t piece) in
     let cut = length-take t piece in
     let part = part_length l bytes in
@@ -125,94 +160,105 @@ within_step l bytes piece t wide lacks few =
     rw within refl
 
 -- a step that ends no row
-pub step_kept : (l : LayoutValue) (r r' : RowsValue) (set : SetValue) (bytes piece : List ℕ) (step : RowStep) → IsAt l r set bytes → Stepped l r' bytes piece step → step.row ≡ None → IsAt l r' set (bytes ++ take step.taken piece)
-step_kept l r r' set bytes piece step at s none =
-    let same : rows l (bytes ++ take step.taken piece) ≡ rows l bytes = s.grown ∙ ap (λ (o : Option RawRow). rows l bytes ++ row_list o) none ∙ append-nil (rows l bytes) in
+pub step_kept : (before : SetValue) (l : LayoutValue) (r r' : RowsValue) (set : SetValue) (bytes piece : List ℕ) (step : RowStep) → IsAt before l r set bytes → Stepped before l r' bytes piece step → step.row ≡ None → IsAt before l r' set (bytes ++ take step.taken piece)
+step_kept before l r r' set bytes piece step at s none =
+    let old = rows_behind before l bytes in
+    let end = end_fault (length before.bodies) false l (bytes ++ take step.taken piece) in
+    let same : rows_behind before l (bytes ++ take step.taken piece) ≡ old = s.grown ∙ ap (λ (o : Option RawRow). old ++ row_list o) none ∙ append-nil old in
     let wide : 1 ≤ l.width = at.sound.some_bytes in
     record {
       layout = s.layout;
+      first = s.first;
       sound = at.sound;
+      few = at.few;
       behind = s.behind;
-      bodies = at.bodies ∙ ap (set_of_rows l.cube) (sym same);
-      good = ap (λ (a : List RawRow). first_of (first_refused l.cube 0 a) (end_fault false l (bytes ++ take step.taken piece))) same
-          ∙ ap (λ (o : Option FileFault). first_of o (end_fault false l (bytes ++ take step.taken piece))) (rows_good l bytes at.good)
-          ∙ within_step l bytes piece step.taken wide s.lacks s.few;
+      bodies = at.bodies ∙ ap (with_rows before) (sym same);
+      good = ap (λ (a : List RawRow). first_of (refused_behind before a) end) same
+          ∙ ap (λ (o : Option FileFault). first_of o end) (rows_good before l bytes at.good)
+          ∙ within_step (length before.bodies) l bytes piece step.taken wide s.lacks s.few;
       named = at.named;
     }
 
 -- the fault of the next row of a set
-next_fault : (l : LayoutValue) (set : SetValue) (raws : List RawRow) (raw : RawRow) (o : Option FileFault) → set ≡ set_of_rows l.cube raws → first_refused l.cube 0 raws ≡ None → row_fault set.cube (length set.bodies) raw ≡ o → first_refused l.cube 0 (raws ++ raw ∷ []) ≡ o
-next_fault l set raws raw o e good f =
-    let cube : set.cube ≡ l.cube = ap (λ (v : SetValue). v.cube) e in
-    let count : length set.bodies ≡ length raws = ap (λ (v : SetValue). length v.bodies) e ∙ bodies-length l.cube 0 raws in
-    refused_push l.cube raws raw
-    ∙ ap (λ (p : Option FileFault). first_of p (row_fault l.cube (length raws) raw)) good
-    ∙ sym (ap (λ (n : ℕ). row_fault l.cube n raw) count)
-    ∙ sym (ap (λ (c : CubeValue). row_fault c (length set.bodies) raw) cube)
+next_fault : (before set : SetValue) (raws : List RawRow) (raw : RawRow) (o : Option FileFault) → set ≡ with_rows before raws → refused_behind before raws ≡ None → row_fault set.cube set.bodies raw ≡ o → refused_behind before (raws ++ raw ∷ []) ≡ o
+next_fault before set raws raw o e good f =
+    refused_push before raws raw
+    ∙ ap (λ (p : Option FileFault). first_of p (row_fault (with_rows before raws).cube (with_rows before raws).bodies raw)) good
+    ∙ sym (ap (λ (v : SetValue). row_fault v.cube v.bodies raw) e)
     ∙ f
 
 -- a step that ends a row, which was added
-pub step_added : (l : LayoutValue) (r r' : RowsValue) (set set' : SetValue) (bytes piece : List ℕ) (step : RowStep) (raw : RawRow) → IsAt l r set bytes → Stepped l r' bytes piece step → step.row ≡ Some raw → Is64Bits raw.ident → row_fault set.cube (length set.bodies) raw ≡ None → set' ≡ with_row set raw → IsAt l r' set' (bytes ++ take step.taken piece)
-step_added l r r' set set' bytes piece step raw at s given small good added =
-    let grown : rows l (bytes ++ take step.taken piece) ≡ rows l bytes ++ raw ∷ [] = s.grown ∙ ap (λ (o : Option RawRow). rows l bytes ++ row_list o) given in
+pub step_added : (before : SetValue) (l : LayoutValue) (r r' : RowsValue) (set set' : SetValue) (bytes piece : List ℕ) (step : RowStep) (raw : RawRow) → IsAt before l r set bytes → Stepped before l r' bytes piece step → step.row ≡ Some raw → Is64Bits raw.ident → row_fault set.cube set.bodies raw ≡ None → set' ≡ with_row set raw → IsAt before l r' set' (bytes ++ take step.taken piece)
+step_added before l r r' set set' bytes piece step raw at s given small good added =
+    let old = rows_behind before l bytes in
+    let end = end_fault (length before.bodies) false l (bytes ++ take step.taken piece) in
+    let grown : rows_behind before l (bytes ++ take step.taken piece) ≡ old ++ raw ∷ [] = s.grown ∙ ap (λ (o : Option RawRow). old ++ row_list o) given in
     let wide : 1 ≤ l.width = at.sound.some_bytes in
     record {
       layout = s.layout;
+      first = s.first;
       sound = at.sound;
+      few = at.few;
       behind = s.behind;
-      bodies = added ∙ ap (λ (v : SetValue). with_row v raw) at.bodies ∙ rows_add_up.one_more l.cube (rows l bytes) raw ∙ ap (set_of_rows l.cube) (sym grown);
-      good = ap (λ (a : List RawRow). first_of (first_refused l.cube 0 a) (end_fault false l (bytes ++ take step.taken piece))) grown
-          ∙ ap (λ (o : Option FileFault). first_of o (end_fault false l (bytes ++ take step.taken piece))) (next_fault l set (rows l bytes) raw None at.bodies (rows_good l bytes at.good) good)
-          ∙ within_step l bytes piece step.taken wide s.lacks s.few;
+      bodies = added ∙ ap (λ (v : SetValue). with_row v raw) at.bodies ∙ rows_one_more before old raw ∙ ap (with_rows before) (sym grown);
+      good = ap (λ (a : List RawRow). first_of (refused_behind before a) end) grown
+          ∙ ap (λ (o : Option FileFault). first_of o end) (next_fault before set old raw None at.bodies (rows_good before l bytes at.good) good)
+          ∙ within_step (length before.bodies) l bytes piece step.taken wide s.lacks s.few;
       named = subst (λ (v : SetValue). All Is64Bits v.idents) (sym added) (All-push Is64Bits set.idents raw.ident at.named small);
     }
 
 -- a step that ends a row at fault
-pub step_refused : (l : LayoutValue) (r r' : RowsValue) (set : SetValue) (bytes piece : List ℕ) (step : RowStep) (raw : RawRow) (f : FileFault) → IsAt l r set bytes → Stepped l r' bytes piece step → step.row ≡ Some raw → row_fault set.cube (length set.bodies) raw ≡ Some f → StopsRows l (bytes ++ piece) (Refused f)
-step_refused l r r' set bytes piece step raw f at s given bad more ended =
-    let grown : rows l (bytes ++ take step.taken piece) ≡ rows l bytes ++ raw ∷ [] = s.grown ∙ ap (λ (o : Option RawRow). rows l bytes ++ row_list o) given in
+pub step_refused : (before : SetValue) (l : LayoutValue) (r r' : RowsValue) (set : SetValue) (bytes piece : List ℕ) (step : RowStep) (raw : RawRow) (f : FileFault) → IsAt before l r set bytes → Stepped before l r' bytes piece step → step.row ≡ Some raw → row_fault set.cube set.bodies raw ≡ Some f → StopsRows before l (bytes ++ piece) (Refused f)
+step_refused before l r r' set bytes piece step raw f at s given bad more ended =
+    let old = rows_behind before l bytes in
+    let grown : rows_behind before l (bytes ++ take step.taken piece) ≡ old ++ raw ∷ [] = s.grown ∙ ap (λ (o : Option RawRow). old ++ row_list o) given in
     let wide : 1 ≤ l.width = at.sound.some_bytes in
-    ap (rows_fault ended l) (split_piece bytes piece more step.taken)
-    ∙ refused_stays l (bytes ++ take step.taken piece) (drop step.taken piece ++ more) ended f wide
-    (ap (first_refused l.cube 0) grown ∙ next_fault l set (rows l bytes) raw (Some f) at.bodies (rows_good l bytes at.good) bad)
+    ap (rows_fault before ended l) (split_piece bytes piece more step.taken)
+    ∙ refused_stays before l (bytes ++ take step.taken piece) (drop step.taken piece ++ more) ended f wide
+    (ap (refused_behind before) grown ∙ next_fault before set old raw (Some f) at.bodies (rows_good before l bytes at.good) bad)
 
 -- ---- the answers of the reader of rows
 
 -- what the reader of rows says of an answer that is no fault
 pub record SaysStep (r r' : RowsValue) (piece : List ℕ) (step : RowStep) : Type 0 where
-  pub answer : (bytes : List ℕ) → IsBehind r bytes → Ok step ≡ answer_to r.layout bytes piece
+  pub answer : (bytes : List ℕ) → IsBehind r bytes → Ok step ≡ answer_from r.layout r.first bytes piece
   pub after : (bytes : List ℕ) → IsBehind r bytes → IsBehind r' (bytes ++ take step.taken piece)
-  pub rows : (bytes : List ℕ) → IsBehind r bytes → rows r.layout (bytes ++ take step.taken piece) ≡ rows r.layout bytes ++ row_list step.row
+  pub rows : (bytes : List ℕ) → IsBehind r bytes → rows_from r.layout r.first (bytes ++ take step.taken piece) ≡ rows_from r.layout r.first bytes ++ row_list step.row
   pub layout : r'.layout ≡ r.layout
+  pub first : r'.first ≡ r.first
+
+-- what is said at the layout and the first row of a reader, said of these
+at_reader : (P : LayoutValue → ℕ → Type 0) (before : SetValue) (l : LayoutValue) (r : RowsValue) (set : SetValue) (bytes : List ℕ) → IsAt before l r set bytes → P r.layout r.first → P l (length before.bodies)
+at_reader P before l r set bytes at h = subst (λ (m : LayoutValue). P m (length before.bodies)) at.layout (subst (P r.layout) at.first h)
 
 -- an answer that is no fault takes the piece up to the end of the current row at most
-pub stepped : (l : LayoutValue) (r r' : RowsValue) (set : SetValue) (bytes piece : List ℕ) (step : RowStep) → IsAt l r set bytes → SaysStep r r' piece step → Stepped l r' bytes piece step
-stepped l r r' set bytes piece step at says =
-    let answer = says.answer bytes at.behind in
-    let grown = says.rows bytes at.behind in
-    let by = ok_by (is_full l bytes) (length piece) (wanted l bytes) _ step (sym (subst (λ (m : LayoutValue). Ok step ≡ answer_to m bytes piece) at.layout answer)) in
+pub stepped : (before : SetValue) (l : LayoutValue) (r r' : RowsValue) (set : SetValue) (bytes piece : List ℕ) (step : RowStep) → IsAt before l r set bytes → SaysStep r r' piece step → Stepped before l r' bytes piece step
+stepped before l r r' set bytes piece step at says =
+    let answer = at_reader (λ m n. Ok step ≡ answer_from m n bytes piece) before l r set bytes at (says.answer bytes at.behind) in
+    let by = ok_by (is_full l bytes) (length piece) (wanted l bytes) _ step (sym answer) in
     record {
       layout = says.layout ∙ at.layout;
+      first = says.first ∙ at.first;
       lacks = by.0;
       few = by.2;
       behind = says.after bytes at.behind;
-      grown = subst (λ (m : LayoutValue). rows m (bytes ++ take step.taken piece) ≡ rows m bytes ++ row_list step.row) at.layout grown;
+      grown = at_reader (λ m n. rows_from m n (bytes ++ take step.taken piece) ≡ rows_from m n bytes ++ row_list step.row) before l r set bytes at (says.rows bytes at.behind);
     }
 
 -- at least one byte is taken
-pub some_taken : (l : LayoutValue) (r r' : RowsValue) (set : SetValue) (bytes piece : List ℕ) (step : RowStep) → IsAt l r set bytes → SaysStep r r' piece step → 1 ≤ length piece → 1 ≤ step.taken
-some_taken l r r' set bytes piece step at says some =
-    takes_some l bytes piece step at.sound.some_bytes some (sym (subst (λ (m : LayoutValue). Ok step ≡ answer_to m bytes piece) at.layout (says.answer bytes at.behind)))
+pub some_taken : (before : SetValue) (l : LayoutValue) (r r' : RowsValue) (set : SetValue) (bytes piece : List ℕ) (step : RowStep) → IsAt before l r set bytes → SaysStep r r' piece step → 1 ≤ length piece → 1 ≤ step.taken
+some_taken before l r r' set bytes piece step at says some =
+    takes_some l (length before.bodies) bytes piece step at.sound.some_bytes some (sym (at_reader (λ m n. Ok step ≡ answer_from m n bytes piece) before l r set bytes at (says.answer bytes at.behind)))
 
 -- a row that was not added
-pub row_stops : (l : LayoutValue) (r r' : RowsValue) (set set' : SetValue) (bytes piece : List ℕ) (step : RowStep) (raw : RawRow) (e : ReadError) → IsAt l r set bytes → SaysStep r r' piece step → step.row ≡ Some raw → PushesRow set set' raw (Err e) → StopsRows l (bytes ++ piece) e
-row_stops l r r' set set' bytes piece step raw (Refused f) at says given bad = step_refused l r r' set bytes piece step raw f at (stepped l r r' set bytes piece step at says) given bad
-row_stops l r r' set set' bytes piece step raw Memory at says given bad = tt
-row_stops l r r' set set' bytes piece step raw Broken at says given bad = absurd bad
+pub row_stops : (before : SetValue) (l : LayoutValue) (r r' : RowsValue) (set set' : SetValue) (bytes piece : List ℕ) (step : RowStep) (raw : RawRow) (e : FileError) → IsAt before l r set bytes → SaysStep r r' piece step → step.row ≡ Some raw → PushesRow set set' raw (Err e) → StopsRows before l (bytes ++ piece) e
+row_stops before l r r' set set' bytes piece step raw (Refused f) at says given bad = step_refused before l r r' set bytes piece step raw f at (stepped before l r r' set bytes piece step at says) given bad
+row_stops before l r r' set set' bytes piece step raw Memory at says given bad = tt
+row_stops before l r r' set set' bytes piece step raw Broken at says given bad = absurd bad
 
 -- a byte too many
-pub trailing_stops : (l : LayoutValue) (r : RowsValue) (set : SetValue) (bytes piece : List ℕ) (fault : RowFault) → IsAt l r set bytes → ((bytes : List ℕ) → IsBehind r bytes → Err fault ≡ answer_to r.layout bytes piece) → 1 ≤ length piece → StopsRows l (bytes ++ piece) (Refused (End fault))
-trailing_stops l r set bytes piece fault at answer some = λ more ended.
-    let by = err_by (is_full l bytes) _ _ _ _ fault (sym (subst (λ (m : LayoutValue). Err fault ≡ answer_to m bytes piece) at.layout (answer bytes at.behind))) in
-    trailing_stays l bytes piece more ended at.sound.some_bytes some by.0 (rows_good l bytes at.good)
+pub trailing_stops : (before : SetValue) (l : LayoutValue) (r : RowsValue) (set : SetValue) (bytes piece : List ℕ) (fault : RowFault) → IsAt before l r set bytes → ((bytes : List ℕ) → IsBehind r bytes → Err fault ≡ answer_from r.layout r.first bytes piece) → 1 ≤ length piece → StopsRows before l (bytes ++ piece) (Refused (End fault))
+trailing_stops before l r set bytes piece fault at answer some = λ more ended.
+    let by = err_by (is_full l bytes) _ _ _ _ fault (sym (at_reader (λ m n. Err fault ≡ answer_from m n bytes piece) before l r set bytes at (answer bytes at.behind))) in
+    trailing_stays before l bytes piece more ended at.sound.some_bytes some by.0 (rows_good before l bytes at.good)
     ∙ ap (λ (f : RowFault). Some (End f)) (sym by.1)

@@ -2,6 +2,7 @@
 use Rattle.std.proofs.Common.{◌≡◌, ℕ, ◌+◌, ◌-◌, ◌*◌, ◌/◌, ◌≤◌, ◌<◌, Bool, true, false, List, [], ◌++◌, length, drop, Option, Some, None, Result, Ok, Err, refl, sym, ap, ◌∙◌, arith, append_assoc, append-nil, length-append, subst, All, if◌then◌else◌}
 use Rattle.std.proofs.Math.Seq.{drop-append_seam}
 use Rattle.std.proofs.lemmas.Bool.{le-ltb, leb-false}
+use Rattle.std.proofs.lemmas.List.Elements.{All-nil}
 use Rattle.std.specs.Prelude.{nat_lt, nat_le}
 use Rattle.hot_units.specs.Limits.{max_header_bytes, max_bodies, max_row_bytes}
 use Rattle.sdf_header.specs.Layouts.{LayoutValue, IsLayout}
@@ -9,24 +10,20 @@ use Rattle.sdf_header.specs.declared.header_fault.HeaderFault.TheVariants.{NoMag
 use Rattle.sdf_header.specs.Verdict.{verdict}
 use Rattle.sdf_header.specs.Extent.{Extent, Faulty, Ends, Open, extent, extent_from, agrees, magic, ending}
 use Rattle.sdf_header.proofs.Known.{within}
-use Rattle.sdf_rows.specs.declared.raw_row.RowFault.{RowFault}
 use Rattle.sdf_rows.specs.Columns.{Is64Bits}
 use Rattle.sdf_rows.specs.Rows as rows
-use Rattle.sdf_rows.specs.Reading.{RowsValue, reader_behind, IsBehind}
+use Rattle.sdf_rows.specs.Reading.{RowsValue, reader_from, IsBehind}
 use Rattle.sdf_rows.proofs.Steps.{counted_below}
-use Rattle.body_set.specs.Sets.{SetValue, empty_set, set_of_rows}
-use Rattle.body_set.proofs.Adding.{rows_add_up}
-use Rattle.body_file.specs.declared.fault.FileFault.{FileFault}
-use Rattle.body_file.specs.declared.fault.FileFault.TheVariants.{End}
-use Rattle.body_file.specs.declared.fault.ReadError.{ReadError}
-use Rattle.body_file.specs.declared.fault.ReadError.TheVariants.{Broken, Refused, Memory}
+use Rattle.hot_units.specs.Values.{CubeValue}
+use Rattle.body_set.specs.Sets.{SetValue, with_rows}
+use Rattle.body_file.specs.declared.fault.FileError.{FileError}
+use Rattle.body_file.specs.declared.fault.FileError.TheVariants.{Broken, Refused, Memory}
 use Rattle.body_file.specs.declared.reader.BodyReader.{BodyReader}
 use Rattle.body_file.specs.declared.reader.BodyReader.TheVariants as stage
-use Rattle.body_file.specs.Faults.{first_of, first_refused, end_fault, rows_fault, decided, ended_by}
-use Rattle.body_file.specs.Files.{HasBodies, read_limit}
-use Rattle.body_file.specs.Reading.{IsAt, StopsRows, IsWholeHeader, IsHeader, IsBehindHeader, HasTaken, Stops, given_to}
+use Rattle.body_file.specs.Faults.{first_refused, differs, set_before, decided_behind}
+use Rattle.body_file.specs.Reading.{IsSetBefore, AreBefore, count_of, file_limit, IsAt, StopsRows, IsWholeHeader, IsHeader, IsBehindHeader, HasTaken, Stops, given_to}
 use Rattle.body_file.proofs.Headers.{decided_by_rows, open_undecided}
-use Rattle.body_file.proofs.RowSteps.{rows_good}
+use Rattle.body_file.proofs.RowLists.{rows_behind, rows_none}
 use Rattle.body_file.proofs.RowCounts.{fed_length, rows_short}
 
 -- ---- the beginning of the rows
@@ -38,70 +35,63 @@ none_stated : (count : Option ℕ) (w : ℕ) → rows.is_beyond_at count w 0 ≡
 none_stated None w = refl
 none_stated (Some n) w = le-ltb (n * w) 0 (omega arith)
 
--- a reader of rows and a set that were given nothing
-pub rows_begin : (l : LayoutValue) (r : RowsValue) (set : SetValue) → IsLayout l → r ≡ reader_behind l [] → set ≡ empty_set l.cube → IsAt l r set []
+-- a reader of rows that was given nothing, and the set before
+pub rows_begin : (before : SetValue) (l : LayoutValue) (r : RowsValue) (set : SetValue) → IsSetBefore before → IsLayout l → r ≡ reader_from l (length before.bodies) [] → set ≡ before → IsAt before l r set []
 unfolding first_refused
-rows_begin l r set sound e f =
-    let none : rows.rows l [] ≡ [] = ap (rows.first_rows l []) (no_rows_in l.count l.width) in
+rows_begin before l r set old sound e f =
+    let none : rows_behind before l [] ≡ [] = ap (rows.first_rows_from l (length before.bodies) []) (no_rows_in l.count l.width) in
     let layout : r.layout ≡ l = ap (λ (v : RowsValue). v.layout) e in
+    let first : r.first ≡ length before.bodies = ap (λ (v : RowsValue). v.first) e in
     record {
       layout = layout;
+      first = first;
       sound = sound;
-      behind = e ∙ ap (λ (m : LayoutValue). reader_behind m []) (sym layout);
-      bodies = f ∙ sym (rows_add_up.none l.cube) ∙ ap (set_of_rows l.cube) (sym none);
+      few = old.few;
+      behind = e ∙ ap (λ (m : LayoutValue). reader_from m (length before.bodies) []) (sym layout) ∙ ap (λ (n : ℕ). reader_from r.layout n []) (sym first);
+      bodies = f ∙ sym (rows_none before) ∙ ap (with_rows before) (sym none);
       good = rw (none, none_stated l.count l.width) refl;
-      named = subst (λ (v : SetValue). All Is64Bits v.idents) (sym f) (λ i d h. absurd (omega (arith, h)));
+      named = subst (λ (v : SetValue). All Is64Bits v.idents) (sym f) old.named;
     }
+
+-- the set that the rows of a file follow stands as one before it
+pub begun_behind : (before : Option SetValue) (cube : CubeValue) → AreBefore before → IsSetBefore (set_before before cube)
+begun_behind None cube h = record { few = omega arith; named = All-nil Is64Bits }
+begun_behind (Some set) cube h = h
+
+-- it has the bodies of the files before
+pub counted_before : (before : Option SetValue) (cube : CubeValue) → length (set_before before cube).bodies ≡ count_of before
+counted_before None cube = refl
+counted_before (Some set) cube = refl
+
+-- what a header begins whose cube is that of the files before
+pub rows_begun : (before : Option SetValue) (l : LayoutValue) (cube : CubeValue) (r : RowsValue) (set : SetValue) (n : ℕ) → cube ≡ l.cube → AreBefore before → IsLayout l → (differs before cube ≡ false) × (set ≡ set_before before cube) → n ≡ length set.bodies → r ≡ reader_from l n [] → (differs before l.cube ≡ false) × IsAt (set_before before l.cube) l r set []
+rows_begun before l cube r set n is old sound given count e =
+    let same : differs before l.cube ≡ false = ap (differs before) (sym is) ∙ given.0 in
+    let begun : set ≡ set_before before l.cube = given.1 ∙ ap (set_before before) is in
+    let first : n ≡ length (set_before before l.cube).bodies = count ∙ ap (λ (v : SetValue). length v.bodies) begun in
+    (same, rows_begin (set_before before l.cube) l r set (begun_behind before l.cube old) sound (e ∙ ap (λ (k : ℕ). reader_from l k []) first) begun)
 
 -- ---- rows behind a header
 
 -- what stops the rows stops the file
-pub rows_stop : (l : LayoutValue) (front body piece bytes : List ℕ) (e : ReadError) → IsHeader l front → bytes ≡ front ++ body → StopsRows l (body ++ piece) e → Stops false (bytes ++ piece) e
-rows_stop l front body piece bytes (Refused f) h all stops = λ more ended.
+pub rows_stop : (before : Option SetValue) (l : LayoutValue) (front body piece bytes : List ℕ) (e : FileError) → IsHeader l front → differs before l.cube ≡ false → bytes ≡ front ++ body → StopsRows (set_before before l.cube) l (body ++ piece) e → Stops before false (bytes ++ piece) e
+rows_stop before l front body piece bytes (Refused f) h same all stops = λ more ended.
     let moved : (bytes ++ piece) ++ more ≡ front ++ ((body ++ piece) ++ more) = rw all (ap (λ (b : List ℕ). b ++ more) (append_assoc front body piece) ∙ append_assoc front (body ++ piece) more) in
-    ap (decided ended) moved ∙ decided_by_rows l front ((body ++ piece) ++ more) ended h ∙ stops more ended
-rows_stop l front body piece bytes Memory h all stops = tt
-rows_stop l front body piece bytes Broken h all stops = absurd stops
+    ap (decided_behind before ended) moved ∙ decided_by_rows before l front ((body ++ piece) ++ more) ended h same ∙ stops more ended
+rows_stop before l front body piece bytes Memory h same all stops = tt
+rows_stop before l front body piece bytes Broken h same all stops = absurd stops
 
 -- the reader with one more piece
-pub rows_go_on : (r r' : RowsValue) (set set' : SetValue) (bytes piece : List ℕ) (b : IsBehindHeader r set bytes) → IsAt b.layout r' set' (b.body ++ piece) → IsBehindHeader r' set' (bytes ++ piece)
-rows_go_on r r' set set' bytes piece b at = record {
+pub rows_go_on : (before : Option SetValue) (r r' : RowsValue) (set set' : SetValue) (bytes piece : List ℕ) (b : IsBehindHeader before r set bytes) → IsAt (set_before before b.layout.cube) b.layout r' set' (b.body ++ piece) → IsBehindHeader before r' set' (bytes ++ piece)
+rows_go_on before r r' set set' bytes piece b at = record {
   layout = b.layout;
   front = b.front;
   body = b.body ++ piece;
   all = ap (λ (x : List ℕ). x ++ piece) b.all ∙ append_assoc b.front b.body piece;
   header = b.header;
+  same = b.same;
   rows = at;
 }
-
--- ---- the end of the rows
-
-end_found : (l : LayoutValue) (bytes : List ℕ) (f : RowFault) → rows_fault false l bytes ≡ None → Err f ≡ rows.ending l bytes → rows_fault true l bytes ≡ Some (End f)
-end_found l bytes f good e =
-    ap (λ (o : Option FileFault). first_of o (ended_by (rows.ending l bytes))) (rows_good l bytes good) ∙ ap ended_by (sym e)
-
-end_good : (l : LayoutValue) (bytes : List ℕ) (n : ℕ) → rows_fault false l bytes ≡ None → Ok n ≡ rows.ending l bytes → rows_fault true l bytes ≡ None
-end_good l bytes n good e =
-    ap (λ (o : Option FileFault). first_of o (ended_by (rows.ending l bytes))) (rows_good l bytes good) ∙ ap ended_by (sym e)
-
--- the file ends within its rows
-pub file_refused : (r : RowsValue) (set : SetValue) (bytes : List ℕ) (f : RowFault) → IsBehindHeader r set bytes → ((bytes : List ℕ) → IsBehind r bytes → Err f ≡ rows.ending r.layout bytes) → decided true bytes ≡ Some (End f)
-file_refused r set bytes f b ends =
-    let ending : Err f ≡ rows.ending b.layout b.body = subst (λ (l : LayoutValue). Err f ≡ rows.ending l b.body) b.rows.layout (ends b.body b.rows.behind) in
-    ap (decided true) b.all ∙ decided_by_rows b.layout b.front b.body true b.header ∙ end_found b.layout b.body f b.rows.good ending
-
--- the file ends with its rows
-pub file_read : (r : RowsValue) (set : SetValue) (bytes : List ℕ) (n : ℕ) → IsBehindHeader r set bytes → ((bytes : List ℕ) → IsBehind r bytes → Ok n ≡ rows.ending r.layout bytes) → HasBodies bytes set
-file_read r set bytes n b ends =
-    let ending : Ok n ≡ rows.ending b.layout b.body = subst (λ (l : LayoutValue). Ok n ≡ rows.ending l b.body) b.rows.layout (ends b.body b.rows.behind) in
-    let good = decided_by_rows b.layout b.front b.body true b.header ∙ end_good b.layout b.body n b.rows.good ending in
-    let rest : drop b.layout.header_len (b.front ++ b.body) ≡ b.body = ap (λ (k : ℕ). drop k (b.front ++ b.body)) b.header.len ∙ drop-append_seam b.front b.body in
-    record {
-      layout = b.layout;
-      header = ap verdict b.all ∙ (b.header.whole b.body).1 ∙ b.header.gives;
-      good = ap (decided true) b.all ∙ good;
-      are = b.rows.bodies ∙ ap (λ (x : List ℕ). set_of_rows b.layout.cube (rows.rows b.layout x)) (sym (ap (drop b.layout.header_len) b.all ∙ rest));
-    }
 
 -- ---- how much was given
 
@@ -126,33 +116,38 @@ open_short : (bytes : List ℕ) → extent bytes ≡ Open → length bytes < max
 unfolding extent
 open_short bytes h = short_by (length bytes) (agrees magic bytes) (ending bytes) h
 
-front_short : (text : ℕ) (front : List ℕ) → IsWholeHeader text front → length front ≤ max_header_bytes
+-- so is a whole one
+pub front_short : (text : ℕ) (front : List ℕ) → IsWholeHeader text front → length front ≤ max_header_bytes
 front_short text front whole = (within front text (length front) (ap extent (sym (append-nil front)) ∙ (whole []).0)).1
 
 -- the reader decided nothing yet
-pub undecided : (reader : BodyReader) (bytes : List ℕ) → HasTaken reader bytes → decided false bytes ≡ None
-undecided (stage.Header h) bytes t = open_undecided bytes t.1
-undecided (stage.Rows r set) bytes t = ap (decided false) t.all ∙ decided_by_rows t.layout t.front t.body false t.header ∙ t.rows.good
+pub undecided : (before : Option SetValue) (reader : BodyReader) (bytes : List ℕ) → HasTaken before reader bytes → decided_behind before false bytes ≡ None
+undecided before (stage.Header h set) bytes t = open_undecided before bytes t.2
+undecided before (stage.Rows r set) bytes t = ap (decided_behind before false) t.all ∙ decided_by_rows before t.layout t.front t.body false t.header t.same ∙ t.rows.good
 
 -- it knows how many bytes it was given
-pub given_all : (reader : BodyReader) (bytes : List ℕ) → HasTaken reader bytes → given_to reader ≡ length bytes
-given_all (stage.Header h) bytes t = ap (λ (x : List ℕ). length x) t.0
-given_all (stage.Rows r set) bytes t =
-    let fed = fed_length t.layout t.body t.rows.sound.some_bytes t.rows.good in
-    let same : r ≡ reader_behind t.layout t.body = t.rows.behind ∙ ap (λ (l : LayoutValue). reader_behind l t.body) t.rows.layout in
+pub given_all : (before : Option SetValue) (reader : BodyReader) (bytes : List ℕ) → HasTaken before reader bytes → given_to reader ≡ length bytes
+given_all before (stage.Header h set) bytes t = ap (λ (x : List ℕ). length x) t.0
+given_all before (stage.Rows r set) bytes t =
+    let old = set_before before t.layout.cube in
+    let fed = fed_length old t.layout t.body t.rows.few t.rows.sound.some_bytes t.rows.good in
+    let same : r ≡ reader_from t.layout (length old.bodies) t.body =
+    t.rows.behind ∙ ap (λ (l : LayoutValue). reader_from l r.first t.body) t.rows.layout ∙ ap (λ (n : ℕ). reader_from t.layout n t.body) t.rows.first in
     let head = t.header.len in
     let size = ap (λ (x : List ℕ). length x) t.all in
     let sum = length-append t.front t.body in
     rw same (omega (arith, fed, head, size, sum))
 
 -- fewer than the limit
-pub in_time : (reader : BodyReader) (bytes : List ℕ) → HasTaken reader bytes → length bytes < read_limit
-in_time (stage.Header h) bytes t =
-    let short = open_short bytes t.1 in
+pub in_time : (before : Option SetValue) (reader : BodyReader) (bytes : List ℕ) → HasTaken before reader bytes → length bytes < file_limit (count_of before)
+in_time before (stage.Header h set) bytes t =
+    let short = open_short bytes t.2 in
     omega (arith, short)
-in_time (stage.Rows r set) bytes t =
+in_time before (stage.Rows r set) bytes t =
     let head = front_short t.header.text t.front t.header.whole in
-    let body = rows_short t.layout t.body t.rows.sound.some_bytes t.rows.sound.narrow t.rows.good in
+    let body = rows_short (set_before before t.layout.cube) t.layout t.body t.rows.few t.rows.sound.some_bytes t.rows.sound.narrow t.rows.good in
+    let count = counted_before before t.layout.cube in
+    let body' : length t.body < (max_bodies + 1 - count_of before) * max_row_bytes = rw count at body in
     let size = ap (λ (x : List ℕ). length x) t.all in
     let sum = length-append t.front t.body in
-    omega (arith, head, body, size, sum)
+    omega (arith, head, body', size, sum)

@@ -1,5 +1,5 @@
 -- What a reader of a body file keeps of the bytes that it was given.
-use Rattle.std.specs.Prelude.{◌≡◌, ℕ, ◌+◌, ◌-◌, ◌*◌, ◌≤◌, ◌<◌, Bool, true, false, List, [], ◌∷◌, ◌++◌, length, None, Some, Option, Result, Ok, Err, MatchResult, All}
+use Rattle.std.specs.Prelude.{◌≡◌, ℕ, ◌+◌, ◌-◌, ◌*◌, ◌≤◌, ◌<◌, Bool, true, false, List, [], ◌∷◌, ◌++◌, length, None, Some, Option, Result, Ok, Err, MatchResult, All, sum_by}
 use Rattle.sdf_header.specs.Layouts.{LayoutValue, IsLayout}
 use Rattle.sdf_header.specs.Extent.{Ends, Open, extent}
 use Rattle.sdf_header.specs.Verdict.{verdict}
@@ -15,7 +15,9 @@ use Rattle.body_file.specs.declared.reader.BodyReader.{BodyReader}
 use Rattle.body_file.specs.declared.reader.BodyReader.TheVariants as stage
 use Rattle.hot_units.specs.Limits.{max_bodies, max_header_bytes, max_row_bytes}
 use Rattle.body_file.specs.Faults.{row_fault, rows_fault, differs, set_before, decided_behind, Decides}
-use Rattle.body_file.specs.Files.{with_file, set_behind, piece_bytes, but_a_piece}
+use Rattle.body_file.specs.Files.{with_file, set_behind, set_of_files, fault_of, piece_bytes, but_a_piece}
+use Rattle.hot_io.specs.declared.outside.Source as sources
+use Rattle.body_file.specs.Sources.{HasGiven}
 
 -- what holds of the set of the files before: it is no larger than a set may be, and its idents fit 64 bits
 pub record IsSetBefore (set : SetValue) : Type 0 where
@@ -89,9 +91,9 @@ HasTaken before (stage.Rows rows set) bytes = IsBehindHeader before rows set byt
 
 -- why the reading stops at these bytes
 abbrev pub Stops : Option SetValue → Bool → List ℕ → FileError → Type 0
-Stops before ended bytes (Refused fault) = Decides before ended bytes fault
-Stops before ended bytes Memory = Unit {0}
-Stops before ended bytes Broken = ⊥
+Stops before at_end bytes (Refused fault) = Decides before at_end bytes fault
+Stops before at_end bytes Memory = Unit {0}
+Stops before at_end bytes Broken = ⊥
 
 -- a file behind those before has no fault, this is the set with its bodies, and so many bytes are in it at most
 pub record HasFile (before : Option SetValue) (bytes : List ℕ) (set : SetValue) : Type 0 where
@@ -117,6 +119,15 @@ abbrev pub StopsFile : Option SetValue → Reading → FileError → Type 0
 StopsFile before input Broken = (has_failed input ≡ true) × (decided_behind before false (taken input) ≡ None)
 StopsFile before input (Refused fault) = (has_failed input ≡ false) × Decides before (has_ended input) (taken input) fault
 StopsFile before input Memory = has_failed input ≡ false
+
+-- these whole files have the first names and were read one after another, they have no fault, this is their set, and so
+-- many bytes are in them at most
+pub record AreRead {S : Type 0} (s : sources.Ghosts S) (names whole : List (List ℕ)) (old new : S) (set : Option SetValue) : Type 0 where
+  pub given : HasGiven s names whole old new
+  pub good : fault_of whole ≡ None
+  pub are : set_of_files None whole ≡ set
+  pub before : AreBefore set
+  pub short : sum_by (λ file. length file) whole ≤ length whole * max_header_bytes + count_of set * max_row_bytes
 
 -- how many bytes of the file the reader was given
 abbrev pub given_to : BodyReader → ℕ

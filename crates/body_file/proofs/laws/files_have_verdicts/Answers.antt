@@ -1,6 +1,6 @@
-use Rattle.body_file.proofs.Verdicts.{has_verdict}
+use Rattle.body_file.proofs.Verdicts.{have_verdicts}
 use Rattle.body_file.proofs.laws.files_have_verdicts.Goals as goal
 
--- the law of files: one without a fault has bodies
+-- the law of files: some without a fault have bodies
 pub returns : goal.returns
-returns c = record { verdict = has_verdict }
+returns c = record { verdict = have_verdicts }

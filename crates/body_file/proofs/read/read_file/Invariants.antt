@@ -1,8 +1,7 @@
 use Rattle.std.proofs.Common.{◌≡◌, ℕ, ◌+◌, ◌-◌, List, true}
 use Rattle.std.specs.Io.KnownBytes.{Consumes}
-use Rattle.body_file.specs.Files.{read_limit}
-use Rattle.body_file.specs.Reading.{HasTaken, given_to}
-use Rattle.body_file.proofs.read.read_bodies.Given as goal
+use Rattle.body_file.specs.Reading.{count_of, file_limit, HasTaken, given_to}
+use Rattle.body_file.proofs.read.read_file.Given as goal
 
 -- the source is open and has not failed, and the reader was given the bytes that it gave
 abbrev pub invariant-pieces : goal.invariant-pieces
@@ -12,9 +11,9 @@ invariant-pieces g l = record {
   once : g.S.Source.opens l.source ≡ g.S.Source.opens l.fn.source + 1;
   files : g.S.Source.file l.source ≡ g.S.Source.file l.fn.source;
   names : g.S.Source.allows l.source ≡ g.S.Source.allows l.fn.source;
-  taken : (bytes : List ℕ) × HasTaken l.reader bytes × Consumes (g.S.Source.file l.fn.source l.name) (g.S.Source.left l.source) bytes;
+  taken : (bytes : List ℕ) × HasTaken l.fn.before l.reader bytes × Consumes (g.S.Source.file l.fn.source l.name) (g.S.Source.left l.source) bytes;
 }
 
 -- how many bytes the reader is from the limit
 abbrev pub decreases-pieces : goal.decreases-pieces
-decreases-pieces g l = read_limit - given_to l.reader
+decreases-pieces g l = file_limit (count_of l.fn.before) - given_to l.reader
