@@ -11,6 +11,7 @@ use hot_units::level;
 use hot_units::limits::FINE_BITS;
 
 /// The square of how far two coordinates are apart.
+#[inline]
 fn apart2(p: u32, c: u32) -> u64
     requires p_in { p < 2 ^ fine_bits }
     requires c_in { c < 2 ^ fine_bits }
@@ -22,6 +23,8 @@ fn apart2(p: u32, c: u32) -> u64
 }
 
 /// The squared distance of two places.
+#[tactic(auto, using(crate::proofs::Hints::on_distance))]
+#[inline]
 pub(crate) fn distance2(p: [u32; 3], c: [u32; 3]) -> u64
     requires p_in { InCube p }
     requires c_in { InCube c }
@@ -32,6 +35,7 @@ pub(crate) fn distance2(p: [u32; 3], c: [u32; 3]) -> u64
 
 /// The square of how far a coordinate is from a cell along an axis, by the coordinate of a place in
 /// the cell and the number of bits below the cell's key.
+#[inline]
 fn gap2(p: u32, inside: u32, below: u32) -> u64
     requires p_in { p < 2 ^ fine_bits }
     requires inside_in { inside < 2 ^ fine_bits }
@@ -48,6 +52,7 @@ fn gap2(p: u32, inside: u32, below: u32) -> u64
 
 /// The squared distance of a place from the box of a cell that is not empty. The cell's centre lies
 /// in its box, and so gives the corner.
+#[inline]
 pub(crate) fn box_distance2(p: [u32; 3], c: &CellRec) -> u64
     requires p_in { InCube p }
     requires not_empty { 0 < c.now.count }
