@@ -1,14 +1,14 @@
 -- The number at a place of an ascending list, by counts of smaller ones.
 use Rattle.std.proofs.Common.{ℕ, zero, suc, ◌≡◌, ◌+◌, ◌-◌, ◌^◌, ◌<◌, ◌≤◌, Bool, true, false, cond, leb, ltb, List, [], ◌∷◌, length, sum_by, get_or, sym, refl, ap, ◌∙◌, subst, inl, inr, arith}
-use Rattle.std.specs.Prelude.{Some, None, All}
+use Rattle.std.specs.Prelude.{Some, None}
 use Rattle.std.specs.List.{slice_get, count_by}
 use Rattle.std.proofs.lemmas.Bool.{cases_lt, le-leb, lt-leb, lt-ltb, le-ltb}
 use Rattle.std.proofs.lemmas.List.Sums.{sum_by-cons}
-use Rattle.std.proofs.lemmas.List.Elements.{All-head, All-tail}
+use Rattle.std.proofs.lemmas.Option.{slice_get_past}
 use Rattle.hot_units.proofs.Sorts.{AllFrom, Rises}
 use Rattle.near_walk.specs.Ascending.{inserted, ascending}
 use Rattle.near_walk.specs.Additions.{inserted-first, inserted-behind}
-use Rattle.near_walk.proofs.Insertions.{sum-ascending}
+use Rattle.near_walk.proofs.Insertions.{sum-ascending, length-ascending}
 
 -- how many numbers of a list are at most v
 abbrev pub up_to : ℕ → List ℕ → ℕ
@@ -56,12 +56,12 @@ under-next v (n ∷ ns) =
       | inr l ↦ under-in (v + 1) n ns (omega arith) ∙ (ap (λ k. 1 + k) (under-next v ns) ∙ sym (up_to-in v n ns l))
     ]
 
--- all are at most v where each is
-pub up_to-all : (v : ℕ) (ns : List ℕ) → All (λ n. n ≤ v) ns → up_to v ns ≡ length ns
-up_to-all v [] h = refl
-up_to-all v (n ∷ ns) h =
-    up_to-in v n ns (All-head (λ (k : ℕ). k ≤ v) n ns h)
-    ∙ omega (arith, up_to-all v ns (All-tail (λ (k : ℕ). k ≤ v) n ns h))
+-- all numbers of 32 bits are at most the largest of them
+pub up_to-fit : (ns : List ℕ) → ((i : ℕ) → get_or ns i 0 < 2 ^ 32) → up_to (2 ^ 32 - 1) ns ≡ length ns
+up_to-fit [] h = refl
+up_to-fit (n ∷ ns) h =
+    let first : n < 2 ^ 32 = h 0 in
+    up_to-in (2 ^ 32 - 1) n ns (omega arith) ∙ omega (arith, up_to-fit ns (λ i. h (suc i)))
 
 -- the number at place i of a list that never falls is the one with at most i below it and more than i up to it
 picked : (ns : List ℕ) (i v : ℕ) → Rises ns → under v ns ≤ i → i < up_to v ns → slice_get ns i ≡ Some v
@@ -138,3 +138,17 @@ pub record IsAround (ns : List ℕ) (i low high : ℕ) : Type 0 where
   pub ordered : low ≤ high
   pub above : i < up_to high ns
   pub below : under low ns ≤ i
+
+-- at the start it lies among all numbers of 32 bits
+pub around-all : (ns : List ℕ) (i : ℕ) → ((j : ℕ) → get_or ns j 0 < 2 ^ 32) → i < length ns → IsAround ns i 0 (2 ^ 32 - 1)
+around-all ns i h l = record { ordered = omega arith; above = omega (arith, up_to-fit ns h); below = omega (arith, under-zero ns) }
+
+-- where low and high meet, it is both
+pub around-one : (ns : List ℕ) (i low high : ℕ) → IsAround ns i low high → high ≤ low → slice_get (ascending ns) i ≡ Some low
+around-one ns i low high a h =
+    let e : high ≡ low = omega (arith, a.ordered) in
+    pick-is ns i low a.below (subst (λ (v : ℕ). i < up_to v ns) e a.above)
+
+-- past the last there is none
+pub pick-past : (ns : List ℕ) (i : ℕ) → length ns ≤ i → slice_get (ascending ns) i ≡ None
+pick-past ns i h = slice_get_past (ascending ns) i (omega (arith, length-ascending ns))

@@ -79,10 +79,8 @@ impl NearAcc {
             (λ _. self.new ≡ near_value self.old.seen (inserted row self.old.rows))
             (λ _. self.new ≡ self.old) }
     {
-        match self.rows.push(row) {
-            Ok(()) => Ok(()),
-            Err(_) => Err(AllocError),
-        }
+        self.rows.push(row)?;
+        Ok(())
     }
 
     /// How many neighbours there are. It takes no memory.

@@ -3,6 +3,6 @@ use Rattle.near_walk.specs.Ascending.{ascending}
 use Rattle.near_walk.specs.Near.{near_value}
 use Rattle.near_walk.proofs.acc.NearAcc.new.Goals as goal
 
-pub returns-clause-value : goal.returns-clause-value
+pub returns : goal.returns
 unfolding ascending
-returns-clause-value c = ap (λ (rows : List ℕ). near_value 0 (ascending rows)) c.new.ensures.items
+returns c = record { value = ap (λ (rows : List ℕ). near_value 0 (ascending rows)) c.new.ensures.items }
