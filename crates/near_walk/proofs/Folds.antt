@@ -95,7 +95,7 @@ shut-none : (radius : ℕ) (b : BodyValue) (row : ℕ) (bodies : List BodyValue)
 shut-none radius b row bodies all c i o =
     sum-nothing (counted radius b row) (inside bodies c) (λ x m.
     let r = has_inside bodies c x m in
-    let t : is_neighbour radius b x ≡ false = none-near radius b c x i (All-contains IsBody bodies x all r.0) r.1 o in
+    let t : is_neighbour radius b x ≡ false = none-near radius b x (cell_record bodies c) i (All-contains IsBody bodies x all r.0) r.1 o in
     ap (λ (t : Bool). cond t (cond (eqb x.row row) 1 0) 0) t)
 
 -- how often a row stands among those of all neighbours

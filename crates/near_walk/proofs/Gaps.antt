@@ -3,13 +3,14 @@ use Rattle.std.proofs.Common.{ℕ, ◌≡◌, ◌+◌, ◌-◌, ◌*◌, ◌/◌
 use Rattle.std.proofs.Math.Nat.{div-eq_of_lt-le}
 use Rattle.std.proofs.lemmas.Nat.{mul-le}
 use Rattle.std.proofs.lemmas.Bool.{leb-false, lt-leb, and_right}
-use Rattle.hot_units.specs.Values.{BodyValue, Point, place}
+use Rattle.hot_units.specs.Values.{BodyValue, CellValue, Point, place}
 use Rattle.hot_units.specs.Keys.{IsCell, IsInBox, contains, corner, corner_along, extent, side, level, bits_along}
 use Rattle.hot_units.specs.Bodies.{IsBody}
 use Rattle.hot_model.specs.Kernel.{square, apart, distance2}
 use Rattle.hot_model.proofs.Pulls.{distance2-is}
 use Rattle.hot_model.proofs.Corners.{IsWithin, x_within, y_within, z_within}
-use Rattle.near_walk.specs.Near.{gap_along, box_distance2, near_opens, is_within, is_neighbour}
+use Rattle.near_walk.specs.Near.{gap_along, box_distance2, near_opens, is_neighbour}
+use Rattle.near_walk.specs.Laws.{NoneUnopened}
 
 -- the squared distance from a box is the sum of the squares along the three axes
 pub box_distance2-is : (p : Point) (c : ℕ) → box_distance2 p c ≡ square (gap_along p.x (corner c).x (extent c)) + square (gap_along p.y (corner c).y (extent c)) + square (gap_along p.z (corner c).z (extent c))
@@ -44,10 +45,15 @@ box-nearest p c o i s e =
     let z = gap-least p.z (corner c).z (extent c) o.z (z_within c o i s.z_in e) in
     rw (box_distance2-is, distance2-is) (omega (arith, x, y, z))
 
--- a cell whose box does not come within the radius has no neighbour
-pub none-near : (radius : ℕ) (b : BodyValue) (c : ℕ) (o : BodyValue) → IsCell c → IsBody o → contains c o ≡ true → is_within radius (box_distance2 (place b) c) ≡ false → is_neighbour radius b o ≡ false
-none-near radius b c o i s e f =
-    let g = box-nearest (place b) c o i s e in
-    let h : square radius < box_distance2 (place b) c = leb-false (box_distance2 (place b) c) (square radius) f in
+-- a body of a cell that is not opened is beyond the radius
+pub none-unopened : NoneUnopened
+none-unopened radius b o c i s e f =
+    let g = box-nearest (place b) c.key o i s e in
+    let h : square radius < box_distance2 (place b) c.key = leb-false (box_distance2 (place b) c.key) (square radius) f in
+    omega (arith, g, h)
+
+-- so it is no neighbour
+pub none-near : (radius : ℕ) (b o : BodyValue) (c : CellValue) → IsCell c.key → IsBody o → contains c.key o ≡ true → near_opens radius b c ≡ false → is_neighbour radius b o ≡ false
+none-near radius b o c i s e f =
     and_right (not (eqb o.row b.row)) (leb (distance2 (place b) (place o)) (square radius))
-    (lt-leb (distance2 (place b) (place o)) (square radius) (omega (arith, g, h)))
+    (lt-leb (distance2 (place b) (place o)) (square radius) (none-unopened radius b o c i s e f))

@@ -1,11 +1,22 @@
 -- The laws of the visit of neighbours.
-use Rattle.std.specs.Prelude.{ℕ, ◌≡◌, ◌≢◌, ◌≤◌, ◌↔◌, List, All, Contains}
+use Rattle.std.specs.Prelude.{ℕ, ◌≡◌, ◌≢◌, ◌≤◌, ◌<◌, ◌↔◌, true, false, List, All, Contains}
 use Rattle.std.specs.List.Sorted.{IsStrictlyIncreasing}
-use Rattle.hot_units.specs.Values.{BodyValue, place}
+use Rattle.hot_units.specs.Values.{BodyValue, CellValue, place}
+use Rattle.hot_units.specs.Keys.{IsCell, contains}
 use Rattle.hot_units.specs.Bodies.{IsBody, mass_of, RowsDiffer}
 use Rattle.hot_model.specs.Kernel.{square, distance2}
 use Rattle.hot_model.specs.Trees.{fold_of}
 use Rattle.near_walk.specs.Near.{near_adds, near_nothing, near_opens, near_rows, near_value}
+
+-- each body of a cell that a visit does not open is beyond the radius
+abbrev pub NoneUnopened : Type 0
+NoneUnopened =
+    (radius : ℕ) (b o : BodyValue) (c : CellValue)
+    → IsCell c.key
+    → IsBody o
+    → contains c.key o ≡ true
+    → near_opens radius b c ≡ false
+    → square radius < distance2 (place b) (place o)
 
 -- the recursive walk ends with the mass of all bodies and the rows of the filter over the whole list
 abbrev pub NeighboursByFilter : Type 0

@@ -6,12 +6,11 @@ use Rattle.hot_model.specs.Kernel.{square, distance2}
 use Rattle.hot_model.specs.Trees.{Term, Far, Near, mass_of_term}
 use Rattle.near_walk.specs.Ascending.{inserted, ascending}
 
--- how far p is from the numbers k to k + w: k - p below, p - (k + w) above, and 0 among them
+-- how far p is from the numbers k to k + w: k - p below them, p - (k + w) above, and 0 among them
 abbrev pub gap_along : ℕ → ℕ → ℕ → ℕ
 gap_along p k w = (k - p) + (p - (k + w))
 
--- the squared distance of a place from the box of a cell, whose coordinates on each axis are the corner's to the side less
--- one above it
+-- the squared distance of a place from the box of a cell: on each axis from the corner to the side less one above it
 unfoldable pub box_distance2 : Point → ℕ → ℕ
 box_distance2 p c =
     square (gap_along p.x (corner c).x (extent c))

@@ -12,8 +12,9 @@ use std::marker::Model;
 /// The accumulator of neighbours: the mass that a body has seen (at most 2^40 in every walk), and
 /// the rows of its neighbours, ascending.
 ///
-/// Clauses see the rows in their order. They are kept as they come, in at most 8 bytes each, and
-/// `into_rows` sorts them once.
+/// Clauses see the rows in their order. They are kept as they come, in a vector that doubles (about
+/// 8 bytes a row at most), and `into_rows` sorts them once: to put each row into its place would
+/// cost the square of their number.
 #[derive(Drop)]
 pub struct NearAcc {
     seen: u64,

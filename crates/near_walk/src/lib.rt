@@ -8,5 +8,5 @@ pub mod limits;
 mod visit;
 
 pub use acc::NearAcc;
-pub use laws::{neighbours_by_filter, rows_of_neighbours};
+pub use laws::{neighbours_by_filter, none_unopened, rows_of_neighbours};
 pub use visit::NearVisit;
