@@ -18,8 +18,8 @@ pub fn list_names(words: &WordList, first: usize, files: usize) -> ArrayVec<&str
     if files == 0 {
         names.push("-");
     }
-    'names: for place in first..first + files {
-        names.push(words.get(place).unwrap());
+    'names: for step in 0..files {
+        names.push(words.get(first + step).unwrap());
     }
     names
 }

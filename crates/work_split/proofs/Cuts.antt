@@ -169,3 +169,4 @@ pieces_make_a_world set ranks leaf h one =
     split_good (weight_in set.weights) set.bodies ranks leaf one h.sound h.in_order h.few
     (All-weaker (λ (b : BodyValue). b.row < length set.bodies) (λ (b : BodyValue). b.row < max_bodies) (λ b l. omega (arith, l, h.few)) set.bodies h.rows_in)
     h.rows_differ
+    h.light
