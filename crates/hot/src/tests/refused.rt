@@ -189,13 +189,13 @@ fn refused_words(rt: HostRuntime) {
             b"",
             b"hot: A6 bad value 0 for --ranks\n",
         ),
-        ("forces a b", b"", b"hot: A7 extra word a\n"),
+        ("forces a --ranks 2", b"", b"hot: A7 extra word --ranks\n"),
         (
             "sample --ranks 0",
             b"",
             b"hot: A6 bad value 0 for --ranks\n",
         ),
-        ("forces --ranks 2 a b", b"", b"hot: A7 extra word a\n"),
+        ("forces --ranks 2 - a -", b"", b"hot: A7 extra word -\n"),
         (
             "forces --form hdf",
             b"",
