@@ -17,9 +17,11 @@ pub fn list_names(words: &WordList, first: usize, files: usize) -> ArrayVec<&str
     let mut names = ArrayVec::new();
     if files == 0 {
         names.push("-");
+        return names;
     }
-    'names: for step in 0..files {
-        names.push(words.get(first + step).unwrap());
+    let last = words.len().min(first.saturating_add(files));
+    'names: for place in first..last {
+        names.push(words.get(place).unwrap());
     }
     names
 }
