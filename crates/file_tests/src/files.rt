@@ -159,27 +159,42 @@ const HEAVY_ROWS: &[u8] = b"struct {int8_t x, y, z; uint64_t mass; int64_t work;
 
 const TWO: &[u8] = b"struct {int8_t x, y, z;}[2];";
 
-const NOT_WHOLE: Verdict = Verdict::Refused(1, FileFault::Header(HeaderFault::NotWhole(ColName::X)));
+const NOT_WHOLE: Verdict = Verdict::Refused(
+    1,
+    FileFault::Header(HeaderFault::NotWhole(ColName::X)),
+);
 
-const OUTSIDE_X: Verdict = Verdict::Refused(1, FileFault::Body(BodyFault::Outside {
-    row: 0,
-    axis: Axis::X,
-}));
+const OUTSIDE_X: Verdict = Verdict::Refused(
+    1,
+    FileFault::Body(BodyFault::Outside {
+        row: 0,
+        axis: Axis::X,
+    }),
+);
 
-const OUTSIDE_Y: Verdict = Verdict::Refused(1, FileFault::Body(BodyFault::Outside {
-    row: 0,
-    axis: Axis::Y,
-}));
+const OUTSIDE_Y: Verdict = Verdict::Refused(
+    1,
+    FileFault::Body(BodyFault::Outside {
+        row: 0,
+        axis: Axis::Y,
+    }),
+);
 
-const OUTSIDE_Z: Verdict = Verdict::Refused(1, FileFault::Body(BodyFault::Outside {
-    row: 0,
-    axis: Axis::Z,
-}));
+const OUTSIDE_Z: Verdict = Verdict::Refused(
+    1,
+    FileFault::Body(BodyFault::Outside {
+        row: 0,
+        axis: Axis::Z,
+    }),
+);
 
-const SECOND_OUTSIDE: Verdict = Verdict::Refused(1, FileFault::Body(BodyFault::Outside {
-    row: 1,
-    axis: Axis::Z,
-}));
+const SECOND_OUTSIDE: Verdict = Verdict::Refused(
+    1,
+    FileFault::Body(BodyFault::Outside {
+        row: 1,
+        axis: Axis::Z,
+    }),
+);
 
 const HEAVY: Verdict = Verdict::Refused(1, FileFault::Body(BodyFault::MassRange { row: 0 }));
 
@@ -300,34 +315,6 @@ fn headers_without_an_end(rt: HostRuntime) {
             .resize(front.len().saturating_add(*blanks), b' ')
             .expect(&rt, "memory");
         verdict_is(&rt, alloc, &bytes, *stop, *want, place);
-    }
-}
-
-const LAST_CUT: Verdict = Verdict::Refused(1, FileFault::End(RowFault::Truncated { row: 1_048_576 }));
-
-const TOO_MANY: Verdict = Verdict::Refused(1, FileFault::Body(BodyFault::TooMany));
-
-/// How many bytes of rows follow the header, how many bytes of them are given before a read fails,
-/// the answer. The most rows are 3,145,728 bytes.
-const FULL: [(usize, Option<usize>, Verdict); 5] = [
-    (3_145_728, None, Verdict::Bodies(1_048_576)),
-    (3_145_730, None, LAST_CUT),
-    (3_145_731, None, TOO_MANY),
-    (3_145_731, Some(3_145_730), Verdict::Broken),
-    (3_145_731, Some(3_145_731), TOO_MANY),
-];
-
-#[test]
-fn most_rows(rt: HostRuntime) {
-    let alloc = rt.alloc();
-    for (rows, stop, want) in &FULL {
-        let mut file = file_of(&rt, alloc, SMALL, b"");
-        let front = file.len();
-        file.resize(front.saturating_add(*rows), 1)
-            .expect(&rt, "memory");
-        let stop = stop.map(|place: usize| front.saturating_add(place));
-        let answer = read(&rt, alloc, "bodies", &file, 4096, stop);
-        assert!(rt; verdict_of(&answer) == *want, "{rows} bytes");
     }
 }
 

@@ -287,6 +287,8 @@ fn rows_behind_other_files(rt: HostRuntime) {
     rows_behind(&rt, alloc, TWO, 7, &bytes[..3], &both[..1], cut);
     let last = [plain(1, 2, 3, 1_048_576)];
     rows_behind(&rt, alloc, FREE, 1_048_576, &bytes[..3], &last, Ok(1));
+    let cut = Err(RowFault::Truncated { row: 1_048_576 });
+    rows_behind(&rt, alloc, FREE, 1_048_576, &bytes[..2], &[], cut);
     let ident = b"uint8_t x, y, z, ident;}[];";
     let named = [plain(1, 2, 3, 4)];
     rows_behind(&rt, alloc, ident, 7, &bytes[..4], &named, Ok(1));

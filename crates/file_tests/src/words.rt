@@ -238,7 +238,9 @@ fn job_line(alloc: Global, job: &Job) -> Result<String, AllocError> {
     let (ranks, num, den) = (job.ranks, job.ratio.num(), job.ratio.den());
     let (eps, leaf, moments, sdf) = (job.eps.get(), job.leaf, job.moments, job.sdf);
     let (report, first, files) = (job.report, job.first, job.files);
-    format!(in alloc; "{ranks} {num}/{den} {eps} {leaf} {moments} {mail} {sdf} {report} {first} {files}")
+    format!(in alloc;
+        "{ranks} {num}/{den} {eps} {leaf} {moments} {mail} {sdf} {report} {first} {files}"
+    )
 }
 
 /// A command in a line.
@@ -268,27 +270,90 @@ const ACCEPTED: [(&str, &str); 42] = [
     ("forces -", "forces 1 7/10 256 8 1 prompt false false 1 1"),
     ("forces -x", "forces 1 7/10 256 8 1 prompt false false 1 1"),
     ("forces ", "forces 1 7/10 256 8 1 prompt false false 1 1"),
-    ("forces forces", "forces 1 7/10 256 8 1 prompt false false 1 1"),
-    ("forces --ranks 64", "forces 64 7/10 256 8 1 prompt false false 0 0"),
-    ("forces --theta 0/1", "forces 1 0/1 256 8 1 prompt false false 0 0"),
-    ("forces --theta 1024/1024", "forces 1 1024/1024 256 8 1 prompt false false 0 0"),
-    ("forces --theta 00000000000000000000/01024", "forces 1 0/1024 256 8 1 prompt false false 0 0"),
-    ("forces --eps 268435456", "forces 1 7/10 268435456 8 1 prompt false false 0 0"),
-    ("forces --eps 00000000000000000001", "forces 1 7/10 1 8 1 prompt false false 0 0"),
-    ("forces --leaf 64", "forces 1 7/10 256 64 1 prompt false false 0 0"),
-    ("forces --mail prompt", "forces 1 7/10 256 8 1 prompt false false 0 0"),
-    ("forces --mail last", "forces 1 7/10 256 8 1 last false false 0 0"),
-    ("forces --mail single", "forces 1 7/10 256 8 1 single false false 0 0"),
-    ("forces --mail 05", "forces 1 7/10 256 8 1 5 false false 0 0"),
-    ("forces --mail 18446744073709551615", "forces 1 7/10 256 8 1 18446744073709551615 false false 0 0"),
-    ("forces --form text", "forces 1 7/10 256 8 1 prompt false false 0 0"),
-    ("forces --form sdf", "forces 1 7/10 256 8 1 prompt true false 0 0"),
-    ("forces --report", "forces 1 7/10 256 8 1 prompt false true 0 0"),
-    ("forces --report f", "forces 1 7/10 256 8 1 prompt false true 2 1"),
-    ("forces --form sdf --mail 3 --report --leaf 1 --eps 2 --theta 1/2 --ranks 4 f", "forces 4 1/2 2 1 1 3 true true 14 1"),
-    ("forces --moments 1 --theta 2/1", "forces 1 2/1 256 8 1 prompt false false 0 0"),
-    ("forces --moments 2", "forces 1 7/10 256 8 2 prompt false false 0 0"),
-    ("sample --theta 5/5 --moments 02", "sample 1000 0 1 5/5 256 8 2 prompt false false 0 0"),
+    (
+        "forces forces",
+        "forces 1 7/10 256 8 1 prompt false false 1 1",
+    ),
+    (
+        "forces --ranks 64",
+        "forces 64 7/10 256 8 1 prompt false false 0 0",
+    ),
+    (
+        "forces --theta 0/1",
+        "forces 1 0/1 256 8 1 prompt false false 0 0",
+    ),
+    (
+        "forces --theta 1024/1024",
+        "forces 1 1024/1024 256 8 1 prompt false false 0 0",
+    ),
+    (
+        "forces --theta 00000000000000000000/01024",
+        "forces 1 0/1024 256 8 1 prompt false false 0 0",
+    ),
+    (
+        "forces --eps 268435456",
+        "forces 1 7/10 268435456 8 1 prompt false false 0 0",
+    ),
+    (
+        "forces --eps 00000000000000000001",
+        "forces 1 7/10 1 8 1 prompt false false 0 0",
+    ),
+    (
+        "forces --leaf 64",
+        "forces 1 7/10 256 64 1 prompt false false 0 0",
+    ),
+    (
+        "forces --mail prompt",
+        "forces 1 7/10 256 8 1 prompt false false 0 0",
+    ),
+    (
+        "forces --mail last",
+        "forces 1 7/10 256 8 1 last false false 0 0",
+    ),
+    (
+        "forces --mail single",
+        "forces 1 7/10 256 8 1 single false false 0 0",
+    ),
+    (
+        "forces --mail 05",
+        "forces 1 7/10 256 8 1 5 false false 0 0",
+    ),
+    (
+        "forces --mail 18446744073709551615",
+        "forces 1 7/10 256 8 1 18446744073709551615 false false 0 0",
+    ),
+    (
+        "forces --form text",
+        "forces 1 7/10 256 8 1 prompt false false 0 0",
+    ),
+    (
+        "forces --form sdf",
+        "forces 1 7/10 256 8 1 prompt true false 0 0",
+    ),
+    (
+        "forces --report",
+        "forces 1 7/10 256 8 1 prompt false true 0 0",
+    ),
+    (
+        "forces --report f",
+        "forces 1 7/10 256 8 1 prompt false true 2 1",
+    ),
+    (
+        "forces --form sdf --mail 3 --report --leaf 1 --eps 2 --theta 1/2 --ranks 4 f",
+        "forces 4 1/2 2 1 1 3 true true 14 1",
+    ),
+    (
+        "forces --moments 1 --theta 2/1",
+        "forces 1 2/1 256 8 1 prompt false false 0 0",
+    ),
+    (
+        "forces --moments 2",
+        "forces 1 7/10 256 8 2 prompt false false 0 0",
+    ),
+    (
+        "sample --theta 5/5 --moments 02",
+        "sample 1000 0 1 5/5 256 8 2 prompt false false 0 0",
+    ),
     ("split", "split 1 0 0"),
     ("split --ranks 2 f", "split 2 3 1"),
     ("make", "make 1000 0"),
@@ -297,17 +362,38 @@ const ACCEPTED: [(&str, &str); 42] = [
         "make 0 18446744073709551615",
     ),
     ("make --seed 7 --bodies 262144", "make 262144 7"),
-    ("sample", "sample 1000 0 1 7/10 256 8 1 prompt false false 0 0"),
-    ("sample --bodies 20000 --seed 7 --ranks 16 --theta 1/1 --eps 1 --leaf 1 --mail last", "sample 20000 7 16 1/1 1 1 1 last false false 0 0"),
+    (
+        "sample",
+        "sample 1000 0 1 7/10 256 8 1 prompt false false 0 0",
+    ),
+    (
+        "sample --bodies 20000 --seed 7 --ranks 16 --theta 1/1 --eps 1 --leaf 1 --mail last",
+        "sample 20000 7 16 1/1 1 1 1 last false false 0 0",
+    ),
     ("forces a b", "forces 1 7/10 256 8 1 prompt false false 1 2"),
     ("forces a a", "forces 1 7/10 256 8 1 prompt false false 1 2"),
-    ("forces -x - x", "forces 1 7/10 256 8 1 prompt false false 1 3"),
+    (
+        "forces -x - x",
+        "forces 1 7/10 256 8 1 prompt false false 1 3",
+    ),
     ("forces  a", "forces 1 7/10 256 8 1 prompt false false 1 2"),
-    ("forces --report x y", "forces 1 7/10 256 8 1 prompt false true 2 2"),
-    ("forces --eps 1 1 2 3", "forces 1 7/10 1 8 1 prompt false false 3 3"),
-    ("forces a b c d e f g h i j k l m n o p", "forces 1 7/10 256 8 1 prompt false false 1 16"),
+    (
+        "forces --report x y",
+        "forces 1 7/10 256 8 1 prompt false true 2 2",
+    ),
+    (
+        "forces --eps 1 1 2 3",
+        "forces 1 7/10 1 8 1 prompt false false 3 3",
+    ),
+    (
+        "forces a b c d e f g h i j k l m n o p",
+        "forces 1 7/10 256 8 1 prompt false false 1 16",
+    ),
     ("split a - a", "split 1 1 3"),
-    ("split --ranks 2 - b c d e f g h i j k l m n o p", "split 2 3 16"),
+    (
+        "split --ranks 2 - b c d e f g h i j k l m n o p",
+        "split 2 3 16",
+    ),
 ];
 
 /// The command of some words in a line.
