@@ -26,6 +26,7 @@ enum Refused {
     Outside(u32, Axis),
     Mass(u32),
     Work(u32),
+    Sum(u32),
     Memory,
 }
 
@@ -35,6 +36,7 @@ fn refusal(answer: Result<(), PushError>) -> Option<Refused> {
         PushError::Outside { row, axis } => Some(Refused::Outside(row, axis)),
         PushError::MassRange { row } => Some(Refused::Mass(row)),
         PushError::WorkRange { row } => Some(Refused::Work(row)),
+        PushError::MassSum { row } => Some(Refused::Sum(row)),
         PushError::Memory => Some(Refused::Memory),
     }
 }
@@ -62,13 +64,18 @@ const REFUSALS: [Case; 10] = [
     ),
     ([0, 0, 2_097_152], 0, -1, Some(Refused::Outside(1, Axis::Z))),
     ([0, 0, 0], 0, -1, Some(Refused::Mass(1))),
-    ([0, 0, 0], 4_194_305, 0, Some(Refused::Mass(1))),
-    ([0, 0, 0], 4_194_304, 4_294_967_296, Some(Refused::Work(1))),
+    ([0, 0, 0], 4_294_967_296, -1, Some(Refused::Mass(1))),
+    (
+        [0, 0, 0],
+        4_294_967_295,
+        4_294_967_296,
+        Some(Refused::Work(1)),
+    ),
     ([0, 0, 0], 1, -1, Some(Refused::Work(1))),
     ([i128::MAX, 0, 0], 1, 0, Some(Refused::Outside(1, Axis::X))),
     (
         [2_097_151, 2_097_151, 2_097_151],
-        4_194_304,
+        4_294_967_295,
         4_294_967_295,
         None,
     ),
@@ -160,15 +167,35 @@ fn key_order(rt: HostRuntime) {
 #[test]
 fn full_set(rt: HostRuntime) {
     let mut set = BodySet::new(rt.alloc(), cube_at(21, 0));
-    for at in 0..262_144_u32 {
+    for at in 0..1_048_576_u32 {
         let x = i128::from(at);
         set.push(&row_at([x, 0, 0], 1, x, 1))
             .expect(&rt, "a good row");
     }
-    assert_eq!(rt; set.len(), 262_144);
+    assert_eq!(rt; set.len(), 1_048_576);
     // it is full before anything else is looked at
     let answer = refusal(set.push(&row_at([-1, 0, 0], 0, 0, -1)));
     assert!(rt; answer == Some(Refused::TooMany));
     let ordered = set.order(rt.alloc()).expect(&rt, "memory");
-    assert_eq!(rt; ordered.bodies().len(), 262_144);
+    assert_eq!(rt; ordered.bodies().len(), 1_048_576);
+}
+
+/// Behind 256 bodies of the largest mass there is room for a mass of 256, and then for none.
+const HEAVY: [Case; 5] = [
+    ([0, 0, 0], 257, 0, Some(Refused::Sum(256))),
+    ([0, 0, 0], 4_294_967_296, 0, Some(Refused::Mass(256))),
+    ([0, 0, 0], 257, -1, Some(Refused::Work(256))),
+    ([0, 0, 0], 256, 0, None),
+    ([0, 0, 0], 1, 0, Some(Refused::Sum(257))),
+];
+
+#[test]
+fn heaviest_set(rt: HostRuntime) {
+    let mut set = BodySet::new(rt.alloc(), cube_at(21, 0));
+    for _ in 0..256 {
+        set.push(&row_at([0, 0, 0], 4_294_967_295, 0, 1))
+            .expect(&rt, "a good row");
+    }
+    answers_are(&rt, &mut set, &HEAVY);
+    assert_eq!(rt; set.len(), 257);
 }

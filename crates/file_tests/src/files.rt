@@ -10,7 +10,7 @@ use std::alloc::Global;
 use std::process::Abort;
 
 /// How many bytes a source gives in one read.
-const PIECES: [usize; 3] = [1, 7, 4096];
+pub const PIECES: [usize; 3] = [1, 7, 4096];
 
 /// Three columns of one byte each, and rows up to the end.
 const SMALL: &[u8] = b"struct {int8_t x, y, z;}[];";
@@ -21,26 +21,26 @@ const WORDS: &[u8] = b"struct {int32_t x, y, z;}[1];";
 /// A file of one body.
 const OTHERS: &[u8] = b"# SDF\nstruct {int8_t x, y, z;}[1];\n# SDF-EOH\n\0\0\0";
 
-/// The answer to a file, without the bodies.
+/// The answer to files, without the bodies; a fault with the number of its file.
 #[derive(Clone, Copy, PartialEq)]
-enum Verdict {
+pub enum Verdict {
     Bodies(usize),
     Broken,
-    Refused(FileFault),
+    Refused(usize, FileFault),
     Memory,
 }
 
-fn verdict_of(answer: &Result<BodySet, ReadError>) -> Verdict {
+pub fn verdict_of(answer: &Result<BodySet, ReadError>) -> Verdict {
     match answer {
         Ok(set) => Verdict::Bodies(set.len()),
         Err(ReadError::Broken) => Verdict::Broken,
-        Err(ReadError::Refused(fault)) => Verdict::Refused(*fault),
+        Err(ReadError::Refused(found)) => Verdict::Refused(found.file, found.fault),
         Err(ReadError::Memory) => Verdict::Memory,
     }
 }
 
 /// A file of these statements and rows.
-fn file_of(rt: &impl Abort, alloc: Global, statements: &[u8], rows: &[u8]) -> Vec<u8> {
+pub fn file_of(rt: &impl Abort, alloc: Global, statements: &[u8], rows: &[u8]) -> Vec<u8> {
     let mut bytes = Vec::from_slice(alloc, b"# SDF\n").expect(rt, "memory");
     for part in [statements, b"\n# SDF-EOH\n", rows] {
         bytes.extend_from_slice(part).expect(rt, "memory");
@@ -64,7 +64,7 @@ fn read(
     if let Some(place) = stop {
         source.stop(place as u64);
     }
-    read_bodies(alloc, &mut source, name)
+    read_bodies(alloc, &mut source, &[name])
 }
 
 /// The file of these bytes has this answer, in pieces of each size, where a read fails behind so
@@ -84,7 +84,7 @@ fn verdict_is(
 }
 
 /// Row, place and mass of a body.
-type Placed = (u32, u32, u32, u32, u32);
+pub type Placed = (u32, u32, u32, u32, u32);
 
 /// The bodies of a file by key, read in pieces of this size.
 fn ordered_of(rt: &impl Abort, alloc: Global, file: &[u8], piece: usize) -> Ordered {
@@ -93,7 +93,7 @@ fn ordered_of(rt: &impl Abort, alloc: Global, file: &[u8], piece: usize) -> Orde
 }
 
 /// These are the bodies, with idents and weights.
-fn bodies_are(
+pub fn bodies_are(
     rt: &impl Abort,
     ordered: &Ordered,
     bodies: &[Placed],
@@ -133,9 +133,9 @@ const GIVEN: [(&[u8], &[u8], &[Placed], &[i128], &[u32]); 5] = [
         &[5, 0],
     ),
     (
-        b"struct {int32_t x, y, z, mass; int64_t ident; uint32_t work;}[];",
-        b"\xff\xff\x1f\0\xff\xff\x1f\0\xff\xff\x1f\0\0\0\x40\0\xfe\xff\xff\xff\xff\xff\xff\xff\xff\xff\xff\xff",
-        &[(0, 536_870_656, 536_870_656, 536_870_656, 4_194_304)],
+        b"struct {int32_t x, y, z; uint32_t mass; int64_t ident; uint32_t work;}[];",
+        b"\xff\xff\x1f\0\xff\xff\x1f\0\xff\xff\x1f\0\xff\xff\xff\xff\xfe\xff\xff\xff\xff\xff\xff\xff\xff\xff\xff\xff",
+        &[(0, 536_870_656, 536_870_656, 536_870_656, 4_294_967_295)],
         &[-2],
         &[4_294_967_295],
     ),
@@ -155,43 +155,58 @@ fn bodies_of_files(rt: HostRuntime) {
 
 const FLOAT: &[u8] = b"struct {float x; int32_t y, z;}[1];";
 
-const HEAVY_ROWS: &[u8] = b"struct {int8_t x, y, z; int32_t mass; int64_t work;}[2];";
+const HEAVY_ROWS: &[u8] = b"struct {int8_t x, y, z; uint64_t mass; int64_t work;}[2];";
 
 const TWO: &[u8] = b"struct {int8_t x, y, z;}[2];";
 
-const NOT_WHOLE: Verdict = Verdict::Refused(FileFault::Header(HeaderFault::NotWhole(ColName::X)));
+const NOT_WHOLE: Verdict = Verdict::Refused(
+    1,
+    FileFault::Header(HeaderFault::NotWhole(ColName::X)),
+);
 
-const OUTSIDE_X: Verdict = Verdict::Refused(FileFault::Body(BodyFault::Outside {
-    row: 0,
-    axis: Axis::X,
-}));
+const OUTSIDE_X: Verdict = Verdict::Refused(
+    1,
+    FileFault::Body(BodyFault::Outside {
+        row: 0,
+        axis: Axis::X,
+    }),
+);
 
-const OUTSIDE_Y: Verdict = Verdict::Refused(FileFault::Body(BodyFault::Outside {
-    row: 0,
-    axis: Axis::Y,
-}));
+const OUTSIDE_Y: Verdict = Verdict::Refused(
+    1,
+    FileFault::Body(BodyFault::Outside {
+        row: 0,
+        axis: Axis::Y,
+    }),
+);
 
-const OUTSIDE_Z: Verdict = Verdict::Refused(FileFault::Body(BodyFault::Outside {
-    row: 0,
-    axis: Axis::Z,
-}));
+const OUTSIDE_Z: Verdict = Verdict::Refused(
+    1,
+    FileFault::Body(BodyFault::Outside {
+        row: 0,
+        axis: Axis::Z,
+    }),
+);
 
-const SECOND_OUTSIDE: Verdict = Verdict::Refused(FileFault::Body(BodyFault::Outside {
-    row: 1,
-    axis: Axis::Z,
-}));
+const SECOND_OUTSIDE: Verdict = Verdict::Refused(
+    1,
+    FileFault::Body(BodyFault::Outside {
+        row: 1,
+        axis: Axis::Z,
+    }),
+);
 
-const HEAVY: Verdict = Verdict::Refused(FileFault::Body(BodyFault::MassRange { row: 0 }));
+const HEAVY: Verdict = Verdict::Refused(1, FileFault::Body(BodyFault::MassRange { row: 0 }));
 
-const WORK_RANGE: Verdict = Verdict::Refused(FileFault::Body(BodyFault::WorkRange { row: 0 }));
+const WORK_RANGE: Verdict = Verdict::Refused(1, FileFault::Body(BodyFault::WorkRange { row: 0 }));
 
-const CUT: Verdict = Verdict::Refused(FileFault::End(RowFault::Truncated { row: 1 }));
+const CUT: Verdict = Verdict::Refused(1, FileFault::End(RowFault::Truncated { row: 1 }));
 
-const TRAILING: Verdict = Verdict::Refused(FileFault::End(RowFault::Trailing));
+const TRAILING: Verdict = Verdict::Refused(1, FileFault::End(RowFault::Trailing));
 
 /// The statements, what follows the header, how many bytes of that are given before a read fails,
 /// the answer.
-const VERDICTS: [(&[u8], &[u8], Option<usize>, Verdict); 25] = [
+const VERDICTS: [(&[u8], &[u8], Option<usize>, Verdict); 26] = [
     (FLOAT, b"", None, NOT_WHOLE),
     (FLOAT, b"", Some(0), NOT_WHOLE),
     (FLOAT, b"\0\0\0\0\0\0\0\0\0\0\0\0", None, NOT_WHOLE),
@@ -206,22 +221,33 @@ const VERDICTS: [(&[u8], &[u8], Option<usize>, Verdict); 25] = [
     (SMALL, b"\x01\x02\x03\x04\x05\xff", None, SECOND_OUTSIDE),
     (
         HEAVY_ROWS,
-        b"\0\0\xff\0\0\0\0\0\0\0\0\x01\0\0\0",
+        b"\0\0\xff\0\0\0\0\0\0\0\0\0\0\0\0\x01\0\0\0",
         None,
         OUTSIDE_Z,
     ),
-    (HEAVY_ROWS, b"\0\0\0\0\0\0\0\0\0\0\0\x01\0\0\0", None, HEAVY),
     (
         HEAVY_ROWS,
-        b"\0\0\0\x01\0\x40\0\0\0\0\0\0\0\0\0",
+        b"\0\0\0\0\0\0\0\0\0\0\0\0\0\0\0\x01\0\0\0",
         None,
         HEAVY,
     ),
     (
         HEAVY_ROWS,
-        b"\0\0\0\0\0\x40\0\0\0\0\0\x01\0\0\0",
+        b"\0\0\0\0\0\0\0\x01\0\0\0\0\0\0\0\0\0\0\0",
+        None,
+        HEAVY,
+    ),
+    (
+        HEAVY_ROWS,
+        b"\0\0\0\xff\xff\xff\xff\0\0\0\0\0\0\0\0\x01\0\0\0",
         None,
         WORK_RANGE,
+    ),
+    (
+        HEAVY_ROWS,
+        b"\0\0\0\xff\xff\xff\xff\0\0\0\0\0\0\0\0\0\0\0\0",
+        None,
+        CUT,
     ),
     (TWO, b"\x01\x02\x03", None, CUT),
     (TWO, b"\x01\x02\x03\x04\x05", None, CUT),
@@ -260,11 +286,11 @@ fn verdicts(rt: HostRuntime) {
     }
 }
 
-const NO_MAGIC: Verdict = Verdict::Refused(FileFault::Header(HeaderFault::NoMagic));
+const NO_MAGIC: Verdict = Verdict::Refused(1, FileFault::Header(HeaderFault::NoMagic));
 
-const NO_END: Verdict = Verdict::Refused(FileFault::Header(HeaderFault::NoEnd));
+const NO_END: Verdict = Verdict::Refused(1, FileFault::Header(HeaderFault::NoEnd));
 
-const TOO_LONG: Verdict = Verdict::Refused(FileFault::Header(HeaderFault::TooLong));
+const TOO_LONG: Verdict = Verdict::Refused(1, FileFault::Header(HeaderFault::TooLong));
 
 /// The first bytes, how many blanks follow, how many bytes are given before a read fails, the
 /// answer.
@@ -289,34 +315,6 @@ fn headers_without_an_end(rt: HostRuntime) {
             .resize(front.len().saturating_add(*blanks), b' ')
             .expect(&rt, "memory");
         verdict_is(&rt, alloc, &bytes, *stop, *want, place);
-    }
-}
-
-const LAST_CUT: Verdict = Verdict::Refused(FileFault::End(RowFault::Truncated { row: 262_144 }));
-
-const TOO_MANY: Verdict = Verdict::Refused(FileFault::Body(BodyFault::TooMany));
-
-/// How many bytes of rows follow the header, how many bytes of them are given before a read fails,
-/// the answer. The most rows are 786,432 bytes.
-const FULL: [(usize, Option<usize>, Verdict); 5] = [
-    (786_432, None, Verdict::Bodies(262_144)),
-    (786_434, None, LAST_CUT),
-    (786_435, None, TOO_MANY),
-    (786_435, Some(786_434), Verdict::Broken),
-    (786_435, Some(786_435), TOO_MANY),
-];
-
-#[test]
-fn most_rows(rt: HostRuntime) {
-    let alloc = rt.alloc();
-    for (rows, stop, want) in &FULL {
-        let mut file = file_of(&rt, alloc, SMALL, b"");
-        let front = file.len();
-        file.resize(front.saturating_add(*rows), 1)
-            .expect(&rt, "memory");
-        let stop = stop.map(|place: usize| front.saturating_add(place));
-        let answer = read(&rt, alloc, "bodies", &file, 4096, stop);
-        assert!(rt; verdict_of(&answer) == *want, "{rows} bytes");
     }
 }
 

@@ -127,8 +127,8 @@ const MIDDLES: [(&[u8], HeaderFault); 101] = [
         HeaderFault::NotWhole(ColName::Mass),
     ),
     (
-        b"struct {int x, y, z; double work[1]; float ident[2];}[262145];",
-        HeaderFault::TooMany(262_145),
+        b"struct {int x, y, z; double work[1]; float ident[2];}[1048577];",
+        HeaderFault::TooMany(1_048_577),
     ),
     (
         b"struct {int x;}[];\nstruct {int y;}[];",
@@ -155,8 +155,8 @@ const MIDDLES: [(&[u8], HeaderFault); 101] = [
         HeaderFault::NotWhole(ColName::X),
     ),
     (
-        b"struct {int32_t x, y, z;}[262145];",
-        HeaderFault::TooMany(262145),
+        b"struct {int32_t x, y, z;}[1048577];",
+        HeaderFault::TooMany(1048577),
     ),
     // Statements that are not complete end at the end place.
     (b"int a = 1", HeaderFault::Syntax(16)),
@@ -218,7 +218,7 @@ const MIDDLES: [(&[u8], HeaderFault); 101] = [
     // The order of the faults behind the text.
     (b"int cube_bits = 0;", HeaderFault::NoStruct),
     (
-        b"struct {}[262145]; int cube_bits = 0;",
+        b"struct {}[1048577]; int cube_bits = 0;",
         HeaderFault::Missing(ColName::X),
     ),
     (
@@ -246,7 +246,7 @@ const MIDDLES: [(&[u8], HeaderFault); 101] = [
         HeaderFault::Syntax(55),
     ),
     (
-        b"struct {int x, y, z;}[262145]; int cube_bits = 0;",
+        b"struct {int x, y, z;}[1048577]; int cube_bits = 0;",
         HeaderFault::BadParameter(ParamName::CubeBits),
     ),
     (
@@ -270,7 +270,7 @@ const MIDDLES: [(&[u8], HeaderFault); 101] = [
         HeaderFault::BadParameter(ParamName::CubeY0),
     ),
     (
-        b"int mass = 4194305; struct {int x, y, z;}[];",
+        b"int mass = 4294967296; struct {int x, y, z;}[];",
         HeaderFault::BadParameter(ParamName::Mass),
     ),
     (

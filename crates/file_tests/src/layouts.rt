@@ -161,16 +161,16 @@ const SIZED_SHAPE: Shape = Shape {
 
 /// The limits of what a header may say.
 const WIDEST: &[u8] =
-    b"float cube_bits = 29; int cube_x0 = 18446744073709551615; int cube_y0 = -9223372036854775808; parameter byteorder = 305419896; int mass = 4194304; struct {unsigned short x, y, z, vx; float vy; int vz[2]; double mass[1]; char a[996];}[+0x40000];";
+    b"float cube_bits = 29; int cube_x0 = 18446744073709551615; int cube_y0 = -9223372036854775808; parameter byteorder = 305419896; int mass = 4294967295; struct {unsigned short x, y, z, vx; float vy; int vz[2]; double mass[1]; char a[996];}[+0x100000];";
 
 const WIDEST_SHAPE: Shape = Shape {
-    header_len: 261,
+    header_len: 265,
     width: 1024,
-    count: Some(262_144),
+    count: Some(1_048_576),
     order: Order::Most,
     bits: 29,
     corner: [18_446_744_073_709_551_615, -9_223_372_036_854_775_808, 0],
-    mass_default: 4_194_304,
+    mass_default: 4_294_967_295,
     axes: [
         Col {
             kind: Whole::U16,

@@ -12,6 +12,8 @@ mod headers;
 #[cfg(test)]
 mod layouts;
 #[cfg(test)]
+mod lists;
+#[cfg(test)]
 mod made;
 #[cfg(test)]
 mod plain;

@@ -28,11 +28,10 @@ fn layout_of(rt: &impl Abort, alloc: Global, text: &[u8]) -> Layout {
 /// The rows of the bytes in pieces of this size, and how they end.
 fn read(
     alloc: Global,
-    layout: Layout,
+    mut rows: Rows,
     bytes: &[u8],
     size: usize,
 ) -> Result<(Vec<RawRow>, Result<u64, RowFault>), AllocError> {
-    let mut rows = Rows::new(layout);
     let mut given = Vec::new(alloc);
     let mut rest = bytes;
     for _ in 0..bytes.len() + 1 {
@@ -59,7 +58,7 @@ fn rows_are(
     want: &[RawRow],
     end: Result<u64, RowFault>,
 ) {
-    let (rows, ended) = read(alloc, layout, bytes, size).expect(rt, "memory");
+    let (rows, ended) = read(alloc, Rows::new(layout), bytes, size).expect(rt, "memory");
     assert_eq!(rt; rows.as_slice(), want, "by {size}");
     assert_eq!(rt; ended, end, "by {size}");
 }
@@ -251,4 +250,46 @@ fn answers(rt: HostRuntime) {
     assert_eq!(rt; rows.feed(b"\x04"), Err(RowFault::Trailing));
     assert_eq!(rt; rows.feed(b"\x05\x06"), Err(RowFault::Trailing));
     assert_eq!(rt; rows.finish(), TRAILING);
+}
+
+/// Bytes behind so many rows of other files have these rows and this end, in pieces of every size.
+fn rows_behind(
+    rt: &impl Abort,
+    alloc: Global,
+    columns: &[u8],
+    first: u64,
+    bytes: &[u8],
+    want: &[RawRow],
+    end: Result<u64, RowFault>,
+) {
+    assert!(rt; first <= 1_048_576);
+    let layout = layout_of(rt, alloc, &joined(rt, alloc, &[LEAST, columns]));
+    for size in [1, 2, 5, 4096] {
+        let rows = Rows::from_row(layout, first);
+        let (rows, ended) = read(alloc, rows, bytes, size).expect(rt, "memory");
+        assert_eq!(rt; rows.as_slice(), want, "by {size}");
+        assert_eq!(rt; ended, end, "by {size}");
+    }
+}
+
+/// A row that is cut short is named by its number over all files, and so is a row without an ident;
+/// the end counts the rows of this file.
+#[test]
+fn rows_behind_other_files(rt: HostRuntime) {
+    let alloc = rt.alloc();
+    let both = [plain(1, 2, 3, 7), plain(4, 5, 6, 8)];
+    let bytes = b"\x01\x02\x03\x04\x05\x06";
+    rows_behind(&rt, alloc, FREE, 7, bytes, &both, Ok(2));
+    rows_behind(&rt, alloc, TWO, 7, bytes, &both, Ok(2));
+    rows_behind(&rt, alloc, ONE, 7, bytes, &both[..1], TRAILING);
+    let cut = Err(RowFault::Truncated { row: 8 });
+    rows_behind(&rt, alloc, FREE, 7, &bytes[..5], &both[..1], cut);
+    rows_behind(&rt, alloc, TWO, 7, &bytes[..3], &both[..1], cut);
+    let last = [plain(1, 2, 3, 1_048_576)];
+    rows_behind(&rt, alloc, FREE, 1_048_576, &bytes[..3], &last, Ok(1));
+    let cut = Err(RowFault::Truncated { row: 1_048_576 });
+    rows_behind(&rt, alloc, FREE, 1_048_576, &bytes[..2], &[], cut);
+    let ident = b"uint8_t x, y, z, ident;}[];";
+    let named = [plain(1, 2, 3, 4)];
+    rows_behind(&rt, alloc, ident, 7, &bytes[..4], &named, Ok(1));
 }

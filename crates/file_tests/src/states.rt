@@ -48,12 +48,12 @@ const SIGNED: &[u8] = b"# SDF\nparameter byteorder = 0x78563412;\nint cube_bits 
     \xfe\xff\xff\xff\xff\xff\xff\xff\
     \xff\xff\xff\xff\xff\xff\xff\xff\0\0\0\0\0\0\0\0\0\0\0\0\0\0\0\x40";
 
-/// The greatest unsigned ident, and the least velocity.
+/// The greatest mass and unsigned ident, and the least velocity.
 const UNSIGNED: &[u8] =
     b"# SDF\nparameter byteorder = 0x78563412;\nint cube_bits = 29;\nstruct {\n  \
     int32_t x, y, z;\n  uint32_t mass;\n  uint64_t ident;\n  int64_t vx, vy, vz;\n}[1];\n\
     # SDF-EOH\n\
-    \0\0\0\0\0\0\0\0\xff\xff\xff\x1f\0\0\x40\0\
+    \0\0\0\0\0\0\0\0\xff\xff\xff\x1f\xff\xff\xff\xff\
     \xff\xff\xff\xff\xff\xff\xff\xff\
     \0\0\0\0\0\0\0\0\0\0\0\0\0\0\0\x80\0\0\0\0\0\0\0\0";
 
@@ -62,7 +62,7 @@ fn written_files(rt: HostRuntime) {
     let alloc = rt.alloc();
     let row = [([1, 258, 3, 4], [-1, 0, 1 << 62])];
     file_is(&rt, alloc, false, &row, &[-2], SIGNED, (5, 1000));
-    let far = [([0, 0, 536_870_911, 4_194_304], [0, -(1 << 63), 0])];
+    let far = [([0, 0, 536_870_911, 4_294_967_295], [0, -(1 << 63), 0])];
     let greatest = [18_446_744_073_709_551_615];
     file_is(&rt, alloc, true, &far, &greatest, UNSIGNED, (1000, 1000));
     file_is(&rt, alloc, false, &[], &[], NO_BODIES, (3, 20));

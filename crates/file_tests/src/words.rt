@@ -148,25 +148,46 @@ const BAD_VALUE: [Refused; 26] = [
     ("forces --moments 3", 2, "A6 bad value 3 for --moments"),
 ];
 
-const EXTRA_WORD: [Refused; 11] = [
-    ("forces a b", 1, "A7 extra word a"),
-    ("forces a --eps 1", 1, "A7 extra word a"),
-    ("forces a --eps", 1, "A7 extra word a"),
-    ("forces  a", 1, "A7 extra word "),
-    ("forces -x f", 1, "A7 extra word -x"),
-    ("split - -", 1, "A7 extra word -"),
-    ("make f", 1, "A7 extra word f"),
+/// From the first file on all words are files: at most 16, none like an option, `-` at most once; and
+/// none for the commands that read no file.
+const EXTRA_WORD: [Refused; 17] = [
+    ("forces a --ranks 2", 2, "A7 extra word --ranks"),
+    ("forces a --eps", 2, "A7 extra word --eps"),
+    ("forces a b --none 1", 3, "A7 extra word --none"),
+    ("split a --", 2, "A7 extra word --"),
+    ("split - -", 2, "A7 extra word -"),
+    ("forces - a - b --", 3, "A7 extra word -"),
+    ("forces --report x --report", 3, "A7 extra word --report"),
+    (
+        "forces a b c d e f g h i j k l m n o p q",
+        17,
+        "A7 extra word q",
+    ),
+    (
+        "split --ranks 2 - b c d e f g h i j k l m n o p -",
+        19,
+        "A7 extra word -",
+    ),
+    ("make x", 1, "A7 extra word x"),
+    ("make - --seed 1", 1, "A7 extra word -"),
     ("make --seed 1 ", 3, "A7 extra word "),
+    ("sample x", 1, "A7 extra word x"),
+    ("sample x y", 1, "A7 extra word x"),
     ("sample --bodies 1 -", 3, "A7 extra word -"),
-    ("forces --report x y", 2, "A7 extra word x"),
+    ("make --bodies 1 1", 3, "A7 extra word 1"),
     (
         "forces --theta 2/1 --moments 2 f --leaf",
-        5,
-        "A7 extra word f",
+        6,
+        "A7 extra word --leaf",
     ),
 ];
 
-const WIDE_RATIO: [Refused; 2] = [
+const WIDE_RATIO: [Refused; 3] = [
+    (
+        "forces --theta 2/1 --moments 2 a b",
+        2,
+        "A8 ratio above 1 with --moments 2",
+    ),
     (
         "forces --theta 2/1 --moments 2",
         2,
@@ -211,13 +232,15 @@ fn mail_word(alloc: Global, mail: Mail) -> Result<String, AllocError> {
     }
 }
 
-/// A run's numbers and choices in a line.
+/// A run's numbers and choices in a line; the last are the place and the number of its files.
 fn job_line(alloc: Global, job: &Job) -> Result<String, AllocError> {
     let mail = mail_word(alloc, job.mail)?;
     let (ranks, num, den) = (job.ranks, job.ratio.num(), job.ratio.den());
     let (eps, leaf, moments, sdf) = (job.eps.get(), job.leaf, job.moments, job.sdf);
-    let (report, file) = (job.report, job.file);
-    format!(in alloc; "{ranks} {num}/{den} {eps} {leaf} {moments} {mail} {sdf} {report} {file}")
+    let (report, first, files) = (job.report, job.first, job.files);
+    format!(in alloc;
+        "{ranks} {num}/{den} {eps} {leaf} {moments} {mail} {sdf} {report} {first} {files}"
+    )
 }
 
 /// A command in a line.
@@ -227,7 +250,11 @@ fn command_line(alloc: Global, command: &Command) -> Result<String, AllocError> 
             let job = job_line(alloc, job)?;
             format!(in alloc; "forces {job}")
         }
-        Command::Split { ranks, file } => format!(in alloc; "split {ranks} {file}"),
+        Command::Split {
+            ranks,
+            first,
+            files,
+        } => format!(in alloc; "split {ranks} {first} {files}"),
         Command::Make { bodies, seed } => format!(in alloc; "make {bodies} {seed}"),
         Command::Sample { bodies, seed, job } => {
             let job = job_line(alloc, job)?;
@@ -237,95 +264,98 @@ fn command_line(alloc: Global, command: &Command) -> Result<String, AllocError> 
 }
 
 /// Words that are accepted, and their command in a line.
-const ACCEPTED: [(&str, &str); 33] = [
-    ("forces", "forces 1 7/10 256 8 1 prompt false false -"),
-    ("forces f", "forces 1 7/10 256 8 1 prompt false false f"),
-    ("forces -", "forces 1 7/10 256 8 1 prompt false false -"),
-    ("forces -x", "forces 1 7/10 256 8 1 prompt false false -x"),
-    ("forces ", "forces 1 7/10 256 8 1 prompt false false "),
+const ACCEPTED: [(&str, &str); 42] = [
+    ("forces", "forces 1 7/10 256 8 1 prompt false false 0 0"),
+    ("forces f", "forces 1 7/10 256 8 1 prompt false false 1 1"),
+    ("forces -", "forces 1 7/10 256 8 1 prompt false false 1 1"),
+    ("forces -x", "forces 1 7/10 256 8 1 prompt false false 1 1"),
+    ("forces ", "forces 1 7/10 256 8 1 prompt false false 1 1"),
     (
         "forces forces",
-        "forces 1 7/10 256 8 1 prompt false false forces",
+        "forces 1 7/10 256 8 1 prompt false false 1 1",
     ),
     (
         "forces --ranks 64",
-        "forces 64 7/10 256 8 1 prompt false false -",
+        "forces 64 7/10 256 8 1 prompt false false 0 0",
     ),
     (
         "forces --theta 0/1",
-        "forces 1 0/1 256 8 1 prompt false false -",
+        "forces 1 0/1 256 8 1 prompt false false 0 0",
     ),
     (
         "forces --theta 1024/1024",
-        "forces 1 1024/1024 256 8 1 prompt false false -",
+        "forces 1 1024/1024 256 8 1 prompt false false 0 0",
     ),
     (
         "forces --theta 00000000000000000000/01024",
-        "forces 1 0/1024 256 8 1 prompt false false -",
+        "forces 1 0/1024 256 8 1 prompt false false 0 0",
     ),
     (
         "forces --eps 268435456",
-        "forces 1 7/10 268435456 8 1 prompt false false -",
+        "forces 1 7/10 268435456 8 1 prompt false false 0 0",
     ),
     (
         "forces --eps 00000000000000000001",
-        "forces 1 7/10 1 8 1 prompt false false -",
+        "forces 1 7/10 1 8 1 prompt false false 0 0",
     ),
     (
         "forces --leaf 64",
-        "forces 1 7/10 256 64 1 prompt false false -",
+        "forces 1 7/10 256 64 1 prompt false false 0 0",
     ),
     (
         "forces --mail prompt",
-        "forces 1 7/10 256 8 1 prompt false false -",
+        "forces 1 7/10 256 8 1 prompt false false 0 0",
     ),
     (
         "forces --mail last",
-        "forces 1 7/10 256 8 1 last false false -",
+        "forces 1 7/10 256 8 1 last false false 0 0",
     ),
     (
         "forces --mail single",
-        "forces 1 7/10 256 8 1 single false false -",
+        "forces 1 7/10 256 8 1 single false false 0 0",
     ),
-    ("forces --mail 05", "forces 1 7/10 256 8 1 5 false false -"),
+    (
+        "forces --mail 05",
+        "forces 1 7/10 256 8 1 5 false false 0 0",
+    ),
     (
         "forces --mail 18446744073709551615",
-        "forces 1 7/10 256 8 1 18446744073709551615 false false -",
+        "forces 1 7/10 256 8 1 18446744073709551615 false false 0 0",
     ),
     (
         "forces --form text",
-        "forces 1 7/10 256 8 1 prompt false false -",
+        "forces 1 7/10 256 8 1 prompt false false 0 0",
     ),
     (
         "forces --form sdf",
-        "forces 1 7/10 256 8 1 prompt true false -",
+        "forces 1 7/10 256 8 1 prompt true false 0 0",
     ),
     (
         "forces --report",
-        "forces 1 7/10 256 8 1 prompt false true -",
+        "forces 1 7/10 256 8 1 prompt false true 0 0",
     ),
     (
         "forces --report f",
-        "forces 1 7/10 256 8 1 prompt false true f",
+        "forces 1 7/10 256 8 1 prompt false true 2 1",
     ),
     (
         "forces --form sdf --mail 3 --report --leaf 1 --eps 2 --theta 1/2 --ranks 4 f",
-        "forces 4 1/2 2 1 1 3 true true f",
+        "forces 4 1/2 2 1 1 3 true true 14 1",
     ),
     (
         "forces --moments 1 --theta 2/1",
-        "forces 1 2/1 256 8 1 prompt false false -",
+        "forces 1 2/1 256 8 1 prompt false false 0 0",
     ),
     (
         "forces --moments 2",
-        "forces 1 7/10 256 8 2 prompt false false -",
+        "forces 1 7/10 256 8 2 prompt false false 0 0",
     ),
     (
         "sample --theta 5/5 --moments 02",
-        "sample 1000 0 1 5/5 256 8 2 prompt false false -",
+        "sample 1000 0 1 5/5 256 8 2 prompt false false 0 0",
     ),
-    ("split", "split 1 -"),
-    ("split --ranks 2 f", "split 2 f"),
+    ("split", "split 1 0 0"),
+    ("split --ranks 2 f", "split 2 3 1"),
     ("make", "make 1000 0"),
     (
         "make --bodies 0 --seed 18446744073709551615",
@@ -334,11 +364,35 @@ const ACCEPTED: [(&str, &str); 33] = [
     ("make --seed 7 --bodies 262144", "make 262144 7"),
     (
         "sample",
-        "sample 1000 0 1 7/10 256 8 1 prompt false false -",
+        "sample 1000 0 1 7/10 256 8 1 prompt false false 0 0",
     ),
     (
         "sample --bodies 20000 --seed 7 --ranks 16 --theta 1/1 --eps 1 --leaf 1 --mail last",
-        "sample 20000 7 16 1/1 1 1 1 last false false -",
+        "sample 20000 7 16 1/1 1 1 1 last false false 0 0",
+    ),
+    ("forces a b", "forces 1 7/10 256 8 1 prompt false false 1 2"),
+    ("forces a a", "forces 1 7/10 256 8 1 prompt false false 1 2"),
+    (
+        "forces -x - x",
+        "forces 1 7/10 256 8 1 prompt false false 1 3",
+    ),
+    ("forces  a", "forces 1 7/10 256 8 1 prompt false false 1 2"),
+    (
+        "forces --report x y",
+        "forces 1 7/10 256 8 1 prompt false true 2 2",
+    ),
+    (
+        "forces --eps 1 1 2 3",
+        "forces 1 7/10 1 8 1 prompt false false 3 3",
+    ),
+    (
+        "forces a b c d e f g h i j k l m n o p",
+        "forces 1 7/10 256 8 1 prompt false false 1 16",
+    ),
+    ("split a - a", "split 1 1 3"),
+    (
+        "split --ranks 2 - b c d e f g h i j k l m n o p",
+        "split 2 3 16",
     ),
 ];
 

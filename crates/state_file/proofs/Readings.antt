@@ -1,9 +1,10 @@
 -- What holds of the state of every body file without a fault.
-use Rattle.std.proofs.Common.{◌≡◌, ℕ, zero, suc, ◌+◌, ◌*◌, ◌^◌, ◌<◌, ◌≤◌, Bool, true, false, cond, List, [], ◌∷◌, length, get_or, take, drop, map, Option, Some, None, Ok, Err, ℤ, pos, negsuc, ◌-ℤ◌, nat_abs, inl, inr, refl, sym, subst, ◌∙◌, ap, arith}
+use Rattle.std.proofs.Common.{◌≡◌, ℕ, zero, suc, ◌+◌, ◌*◌, ◌^◌, ◌<◌, ◌≤◌, Bool, true, false, cond, List, [], ◌∷◌, ◌++◌, length, get_or, take, drop, map, Option, Some, None, Ok, Err, ℤ, pos, negsuc, ◌-ℤ◌, nat_abs, inl, inr, refl, sym, subst, ◌∙◌, ap, arith}
 use Rattle.std.specs.Prelude.{All, Result, nat_le, nat_lt, ◌&&◌, if◌then◌else◌, codes, ◌⊎◌}
 use Rattle.std.proofs.lemmas.Bool.{ltb-true, ltb-false, leb-true}
 use Rattle.std.proofs.lemmas.Int.{ints}
 use Rattle.std.proofs.lemmas.List.Elements.{All-nil, All-cons, All-push}
+use Rattle.std.proofs.lemmas.List.Sums.{sum_by-cons}
 use Rattle.std.proofs.lemmas.List.{length-append, length-map, map-append}
 use Rattle.byteorder.specs.Numbers.{little_from-lt, big_from-lt}
 use Rattle.sdf_header.specs.declared.kind.Whole.{Whole}
@@ -18,9 +19,9 @@ use Rattle.leap_frog.specs.Leap.{bodies_of}
 use Rattle.leap_frog.proofs.States.{bodies-moving, length-moving}
 use Rattle.state_file.specs.Texts.{StateFile, FilesHaveStates, state_of_rows, HasState, FitsIdent, IsSigned, is_unsigned, is_u64, velocity_of_row}
 use Rattle.state_file.specs.Commands.{AreBytes}
-use Rattle.hot_units.specs.Limits.{max_bodies, max_body_mass, fine_bits}
+use Rattle.hot_units.specs.Limits.{max_bodies, max_body_mass, max_all_mass, max_work, fine_bits}
 use Rattle.hot_units.specs.Values.{BodyValue, CubeValue}
-use Rattle.hot_units.specs.Bodies.{IsBody, RowsCount}
+use Rattle.hot_units.specs.Bodies.{IsBody, RowsCount, mass_of as all_mass, mass_of_body}
 use Rattle.hot_units.specs.declared.cube.Axis.TheVariants.{X, Y, Z}
 use Rattle.sdf_header.specs.declared.header_fault.HeaderFault.{HeaderFault}
 use Rattle.sdf_header.specs.declared.header_fault.HeaderFault.TheVariants as faults
@@ -35,14 +36,18 @@ use Rattle.sdf_header.specs.Extent.{Extent, Faulty, Ends, Open, extent}
 use Rattle.sdf_header.specs.Verdict.{or_fault, column, axes_of, optional_of, order_of, whole_param, bad, small_param, cube_of, mass_of, count_of, layout_of, placed, verdict_from, judged, verdict}
 use Rattle.hot_units.specs.declared.raw_row.RawRow.{RawRow}
 use Rattle.body_set.specs.declared.fault.PushError.{PushError}
-use Rattle.body_set.specs.declared.fault.PushError.TheVariants.{TooMany, Outside, MassRange}
+use Rattle.body_set.specs.declared.fault.PushError.TheVariants.{TooMany, Outside, MassRange, WorkRange, MassSum}
 use Rattle.body_set.specs.Rows.{body_of_row, fine, is_inside, is_between}
 use Rattle.body_set.specs.Sets.{bodies_from}
+use Rattle.body_set.proofs.Adding.{bodies-length}
 use Rattle.body_set.proofs.FirstFault.{first_by_tests}
+use Rattle.body_set.proofs.Growing.{mass_more}
 use Rattle.body_set.proofs.Coordinates.{scaled_within}
 use Rattle.body_file.specs.declared.fault.FileFault.{FileFault}
-use Rattle.body_file.specs.Faults.{named, row_fault, first_refused, first_of, decided}
-use Rattle.state_file.proofs.Files.{known_at_end}
+use Rattle.body_file.specs.declared.fault.FoundFault.{FoundFault}
+use Rattle.body_file.specs.Faults.{named, row_fault, first_refused, first_of, decided, decided_behind}
+use Rattle.body_file.specs.Files.{found_in, first_found, fault_from, fault_of}
+use Rattle.state_file.proofs.Files.{known_at_end, has_alone}
 
 -- where both hold the second does
 second-true : (a b : Bool) → (a && b) ≡ true → b ≡ true
@@ -184,23 +189,27 @@ passed true o f g e h = (refl, h)
 passed false o f g e h = absurd cc
 
 -- what a row without a fault meets
-pub record Meets (cube : CubeValue) (k : ℕ) (raw : RawRow) : Type 0 where
-  pub room : k < max_bodies
+pub record Meets (cube : CubeValue) (before : List BodyValue) (raw : RawRow) : Type 0 where
+  pub room : length before < max_bodies
   pub x : is_inside cube.bits cube.x0 raw.x ≡ true
   pub y : is_inside cube.bits cube.y0 raw.y ≡ true
   pub z : is_inside cube.bits cube.z0 raw.z ≡ true
   pub mass : is_between (pos 1) (pos max_body_mass) raw.mass ≡ true
+  pub sum : all_mass before + nat_abs raw.mass ≤ max_all_mass
 
 -- what holds of a row without a fault
-row-meets : (cube : CubeValue) (k : ℕ) (raw : RawRow) → row_fault cube k raw ≡ None → Meets cube k raw
-row-meets cube k raw h =
-    let all = sym (ap named (first_by_tests cube k raw)) ∙ h in
+row-meets : (cube : CubeValue) (before : List BodyValue) (raw : RawRow) → row_fault cube before raw ≡ None → Meets cube before raw
+row-meets cube before raw h =
+    let k = length before in
+    let all = sym (ap named (first_by_tests cube k (all_mass before) raw)) ∙ h in
     let room = passed (nat_lt k max_bodies) _ TooMany _ refl all in
     let x = passed (is_inside cube.bits cube.x0 raw.x) _ (Outside k X) _ refl room.1 in
     let y = passed (is_inside cube.bits cube.y0 raw.y) _ (Outside k Y) _ refl x.1 in
     let z = passed (is_inside cube.bits cube.z0 raw.z) _ (Outside k Z) _ refl y.1 in
     let mass = passed (is_between (pos 1) (pos max_body_mass) raw.mass) _ (MassRange k) _ refl z.1 in
-    record { room = ltb-true k max_bodies room.0; x = x.0; y = y.0; z = z.0; mass = mass.0 }
+    let work = passed (is_between (pos 0) (pos max_work) raw.work) _ (WorkRange k) _ refl mass.1 in
+    let sum = passed (nat_le (all_mass before + nat_abs raw.mass) max_all_mass) _ (MassSum k) _ refl work.1 in
+    record { room = ltb-true k max_bodies room.0; x = x.0; y = y.0; z = z.0; mass = mass.0; sum = leb-true (all_mass before + nat_abs raw.mass) max_all_mass sum.0 }
 
 -- a coordinate inside the cube is within its edge
 inside-near : (bits : ℕ) (corner at : ℤ) → is_inside bits corner at ≡ true → nat_abs (at -ℤ corner) < 2 ^ bits
@@ -216,8 +225,8 @@ mass-within (pos n) h = (leb-true 1 n (first-true _ _ h), leb-true n max_body_ma
 mass-within (negsuc n) h = absurd cc
 
 -- a row without a fault gives a sound body
-row-sound : (cube : CubeValue) (k : ℕ) (raw : RawRow) → cube.bits ≤ fine_bits → Meets cube k raw → IsBody (body_of_row cube k raw)
-row-sound cube k raw le m =
+row-sound : (cube : CubeValue) (before : List BodyValue) (raw : RawRow) → cube.bits ≤ fine_bits → Meets cube before raw → IsBody (body_of_row cube (length before) raw)
+row-sound cube before raw le m =
     let mass = mass-within raw.mass m.mass in
     record { x_in = fine-within cube.bits cube.x0 raw.x le m.x; y_in = fine-within cube.bits cube.y0 raw.y le m.y; z_in = fine-within cube.bits cube.z0 raw.z le m.z; weighs = mass.0; light = mass.1 }
 
@@ -226,23 +235,49 @@ none-of : (a b : Option FileFault) → first_of a b ≡ None → (a ≡ None) ×
 none-of None b h = (refl, h)
 none-of (Some f) b h = absurd cc
 
+-- these bodies and that of one more row
+abbrev and_next : CubeValue → List BodyValue → RawRow → List BodyValue
+and_next cube before raw = before ++ body_of_row cube (length before) raw ∷ []
+
+-- they are one more
+length-next : (cube : CubeValue) (before : List BodyValue) (raw : RawRow) → length (and_next cube before raw) ≡ suc (length before)
+length-next cube before raw = let e = length-append before (body_of_row cube (length before) raw ∷ []) in omega arith
+
 -- rows without a fault give sound bodies
-pub rows-sound : (cube : CubeValue) (k : ℕ) (raws : List RawRow) → cube.bits ≤ fine_bits → first_refused cube k raws ≡ None → All IsBody (bodies_from cube k raws)
+pub rows-sound : (cube : CubeValue) (before : List BodyValue) (raws : List RawRow) → cube.bits ≤ fine_bits → first_refused cube before raws ≡ None → All IsBody (bodies_from cube (length before) raws)
 unfolding first_refused bodies_from
-rows-sound cube k [] le h = All-nil IsBody
-rows-sound cube k (raw ∷ raws) le h =
-    let both = none-of (row_fault cube k raw) (first_refused cube (suc k) raws) h in
-    All-cons IsBody _ _ (row-sound cube k raw le (row-meets cube k raw both.0)) (rows-sound cube (suc k) raws le both.1)
+rows-sound cube before [] le h = All-nil IsBody
+rows-sound cube before (raw ∷ raws) le h =
+    let both = none-of (row_fault cube before raw) (first_refused cube (and_next cube before raw) raws) h in
+    let P : ℕ → Type 0 = λ k. All IsBody (bodies_from cube k raws) in
+    let rest = subst P (length-next cube before raw) (rows-sound cube (and_next cube before raw) raws le both.1) in
+    All-cons IsBody _ _ (row-sound cube before raw le (row-meets cube before raw both.0)) rest
 
 -- rows without a fault are few
-pub rows-few : (cube : CubeValue) (k : ℕ) (raws : List RawRow) → k ≤ max_bodies → first_refused cube k raws ≡ None → k + length raws ≤ max_bodies
+pub rows-few : (cube : CubeValue) (before : List BodyValue) (raws : List RawRow) → length before ≤ max_bodies → first_refused cube before raws ≡ None → length before + length raws ≤ max_bodies
 unfolding first_refused
-rows-few cube k [] le h = omega arith
-rows-few cube k (raw ∷ raws) le h =
-    let both = none-of (row_fault cube k raw) (first_refused cube (suc k) raws) h in
-    let m = row-meets cube k raw both.0 in
+rows-few cube before [] le h = omega arith
+rows-few cube before (raw ∷ raws) le h =
+    let both = none-of (row_fault cube before raw) (first_refused cube (and_next cube before raw) raws) h in
+    let m = row-meets cube before raw both.0 in
     let room = m.room in
-    let rest = rows-few cube (suc k) raws (omega arith) both.1 in
+    let long = length-next cube before raw in
+    let rest = rows-few cube (and_next cube before raw) raws (omega arith) both.1 in
+    omega arith
+
+-- and they are not too heavy together
+pub rows-light : (cube : CubeValue) (before : List BodyValue) (raws : List RawRow) → all_mass before ≤ max_all_mass → first_refused cube before raws ≡ None → all_mass before + all_mass (bodies_from cube (length before) raws) ≤ max_all_mass
+unfolding first_refused bodies_from
+rows-light cube before [] le h = omega arith
+rows-light cube before (raw ∷ raws) le h =
+    let next = body_of_row cube (length before) raw in
+    let both = none-of (row_fault cube before raw) (first_refused cube (and_next cube before raw) raws) h in
+    let m = row-meets cube before raw both.0 in
+    let sum = m.sum in
+    let heavy : all_mass (and_next cube before raw) ≡ all_mass before + nat_abs raw.mass = mass_more before next in
+    let parts : all_mass (bodies_from cube (length before) (raw ∷ raws)) ≡ nat_abs raw.mass + all_mass (bodies_from cube (suc (length before)) raws) = sum_by-cons mass_of_body next (bodies_from cube (suc (length before)) raws) in
+    let P : ℕ → Type 0 = λ k. all_mass (and_next cube before raw) + all_mass (bodies_from cube k raws) ≤ max_all_mass in
+    let rest = subst P (length-next cube before raw) (rows-light cube (and_next cube before raw) raws (omega arith) both.1) in
     omega arith
 
 -- the bodies of rows are numbered by their places
@@ -251,12 +286,6 @@ unfolding bodies_from
 rows-count cube k [] i d lt = absurd (omega arith)
 rows-count cube k (raw ∷ raws) zero d lt = omega arith
 rows-count cube k (raw ∷ raws) (suc i) d lt = rows-count cube (suc k) raws i d (omega arith) ∙ omega arith
-
--- each row gives a body
-pub length-bodies : (cube : CubeValue) (k : ℕ) (raws : List RawRow) → length (bodies_from cube k raws) ≡ length raws
-unfolding bodies_from
-length-bodies cube k [] = refl
-length-bodies cube k (raw ∷ raws) = ap suc (length-bodies cube (suc k) raws)
 
 -- ---- idents
 
@@ -305,7 +334,7 @@ ident-fits order (Some col) number row lt h = whole-fits col.kind (number_of ord
 
 -- the ident of the row at a place fits its column
 row-ident : (l : LayoutValue) (bytes : List ℕ) (k : ℕ) → k < max_bodies → AreBytes bytes → FitsIdent (is_unsigned l.ident) (row_at l bytes k).ident
-row-ident l bytes k lt h = ident-fits l.order l.ident (row_number k) (take l.width (drop (k * l.width) bytes)) (omega arith) (bytes-take l.width (drop (k * l.width) bytes) (bytes-drop (k * l.width) bytes h))
+row-ident l bytes k lt h = ident-fits l.order l.ident (row_number (0 + k)) (take l.width (drop (k * l.width) bytes)) (omega arith) (bytes-take l.width (drop (k * l.width) bytes) (bytes-drop (k * l.width) bytes h))
 
 -- the ident of a row
 abbrev ident_of : RawRow → ℤ
@@ -334,13 +363,29 @@ pub record IsRead (f : StateFile) : Type 0 where
   pub sound : All IsBody (bodies_of f.state)
   pub rows : RowsCount (bodies_of f.state)
   pub few : length f.state ≤ max_bodies
+  pub light : all_mass (bodies_of f.state) ≤ max_all_mass
   pub idents_too : length f.idents ≡ length f.state
   pub named : All (FitsIdent f.unsigned) f.idents
 
+-- a file that is found to have no fault has none
+none-found : (o : Option FileFault) → found_in 1 o ≡ None → o ≡ None
+none-found None h = refl
+none-found (Some f) h = absurd cc
+
+-- where the first of two is none there is neither
+neither : (a b : Option FoundFault) → first_found a b ≡ None → a ≡ None
+neither None b h = refl
+neither (Some f) b h = absurd cc
+
+-- a file that has no fault alone in a list has none
+alone : (bytes : List ℕ) → fault_of (bytes ∷ []) ≡ None → decided true bytes ≡ None
+unfolding fault_from
+alone bytes h = none-found (decided true bytes) (neither (found_in 1 (decided true bytes)) None h)
+
 -- no row of a file without a fault is refused
-no-refusal : (bytes : List ℕ) (f : StateFile) (h : HasState bytes f) → first_refused h.layout.cube 0 (rows h.layout (drop h.layout.header_len bytes)) ≡ None
-unfolding decided
-no-refusal bytes f h = (none-of _ _ (rw (known_at_end (extent bytes), h.header) at h.good)).0
+no-refusal : (bytes : List ℕ) (f : StateFile) (h : HasState bytes f) → first_refused h.layout.cube [] (rows h.layout (drop h.layout.header_len bytes)) ≡ None
+unfolding decided_behind
+no-refusal bytes f h = (none-of _ _ (rw (known_at_end (extent bytes), h.header) at (alone bytes h.read.good))).0
 
 -- what holds of the state of a file without a fault
 pub is-read : (bytes : List ℕ) (f : StateFile) → AreBytes bytes → HasState bytes f → IsRead f
@@ -349,8 +394,9 @@ is-read bytes f b h =
     let body = drop l.header_len bytes in
     let raws = rows l body in
     let good = no-refusal bytes f h in
-    let few = rows-few l.cube 0 raws (omega arith) good in
-    let long-bodies = length-bodies l.cube 0 raws in
+    let few = rows-few l.cube [] raws (omega arith) good in
+    let light = rows-light l.cube [] raws (omega arith) good in
+    let long-bodies = bodies-length l.cube 0 raws in
     let long-speeds : length (map velocity_of_row raws) ≡ length (bodies_from l.cube 0 raws) = length-map raws velocity_of_row ∙ sym long-bodies in
     let bodies : bodies_of f.state ≡ bodies_from l.cube 0 raws = ap bodies_of h.state ∙ bodies-moving (bodies_from l.cube 0 raws) (map velocity_of_row raws) long-speeds in
     let long-state : length f.state ≡ length raws = ap length h.state ∙ (length-moving (bodies_from l.cube 0 raws) (map velocity_of_row raws) long-speeds ∙ long-bodies) in
@@ -360,10 +406,12 @@ is-read bytes f b h =
     let idents : All (FitsIdent (is_unsigned l.ident)) (map ident_of raws) = first-idents l body (rows_in l (length body)) (omega arith) (bytes-drop l.header_len bytes b) in
     let R : List ℤ → Type 0 = λ x. All (FitsIdent (is_unsigned l.ident)) x in
     let S : Bool → Type 0 = λ x. All (FitsIdent x) f.idents in
+    let T : List BodyValue → Type 0 = λ x. all_mass x ≤ max_all_mass in
     record {
-      sound = subst P (sym bodies) (rows-sound l.cube 0 raws (verdict-bits bytes l h.header) good);
+      sound = subst P (sym bodies) (rows-sound l.cube [] raws (verdict-bits bytes l h.header) good);
       rows = subst Q (sym bodies) (λ i d lt. rows-count l.cube 0 raws i d lt ∙ omega arith);
       few = omega arith;
+      light = subst T (sym bodies) (omega arith);
       idents_too = ap length h.idents ∙ (length-map raws ident_of ∙ sym long-state);
       named = subst S (sym h.unsigned) (subst R (sym h.idents) idents);
     }
@@ -371,14 +419,14 @@ is-read bytes f b h =
 -- ---- a file without a fault has a state
 
 -- a file without a fault has a state, by the verdict of its header
-by-verdict : (bytes : List ℕ) (v : Result LayoutValue HeaderFault) → verdict bytes ≡ v → decided true bytes ≡ None → (f : StateFile) × HasState bytes f
-unfolding decided
+by-verdict : (bytes : List ℕ) (v : Result LayoutValue HeaderFault) → verdict bytes ≡ v → fault_of (bytes ∷ []) ≡ None → (f : StateFile) × HasState bytes f
+unfolding decided_behind
 by-verdict bytes (Ok l) e h =
     let raws = rows l (drop l.header_len bytes) in (
       record { unsigned = is_unsigned l.ident; state = state_of_rows l.cube raws; idents = map (λ raw. raw.ident) raws },
-      record { layout = l; header = e; good = h; unsigned = refl; state = refl; idents = refl },
+      record { layout = l; header = e; read = has_alone bytes l e h; unsigned = refl; state = refl; idents = refl },
     )
-by-verdict bytes (Err f) e h = absurd (cc (rw (known_at_end (extent bytes), e) at h))
+by-verdict bytes (Err f) e h = absurd (cc (rw (known_at_end (extent bytes), e) at (alone bytes h)))
 
 -- A file without a fault has a state.
 pub files-have-states : FilesHaveStates

@@ -168,12 +168,12 @@ text_len true ds = omega (arith, length-append ds (93 ∷ 59 ∷ 10 ∷ []), len
 text_len false ds = omega (arith, length-append ds (93 ∷ 59 ∷ 10 ∷ []), length-append ((codes "}[" ++ ds) ++ 93 ∷ []) (59 ∷ []), length-append (codes "}[" ++ ds) (93 ∷ []), length-append (codes "}[") ds)
 
 -- the header is short enough
-text_short : (unsigned : Bool) (ds : List ℕ) → length ds ≤ 6 → length (text_1 unsigned (ds ++ 93 ∷ 59 ∷ 10 ∷ [])) + 9 + 1 ≤ max_header_bytes
+text_short : (unsigned : Bool) (ds : List ℕ) → length ds ≤ 7 → length (text_1 unsigned (ds ++ 93 ∷ 59 ∷ 10 ∷ [])) + 9 + 1 ≤ max_header_bytes
 text_short true ds le = omega (arith, length-append ds (93 ∷ 59 ∷ 10 ∷ []))
 text_short false ds le = omega (arith, length-append ds (93 ∷ 59 ∷ 10 ∷ []))
 
 -- the header ends with its last line, whatever rows follow
-made_extent : (unsigned : Bool) (ds rows : List ℕ) → AllAre ds → length ds ≤ 6 → extent (text_1 unsigned (ds ++ 93 ∷ 59 ∷ 10 ∷ last_line rows)) ≡ Ends (length (text_1 unsigned (ds ++ 93 ∷ 59 ∷ 10 ∷ []))) (length (text_1 unsigned (ds ++ 93 ∷ 59 ∷ 10 ∷ [])) + 9 + 1)
+made_extent : (unsigned : Bool) (ds rows : List ℕ) → AllAre ds → length ds ≤ 7 → extent (text_1 unsigned (ds ++ 93 ∷ 59 ∷ 10 ∷ last_line rows)) ≡ Ends (length (text_1 unsigned (ds ++ 93 ∷ 59 ∷ 10 ∷ []))) (length (text_1 unsigned (ds ++ 93 ∷ 59 ∷ 10 ∷ [])) + 9 + 1)
 unfolding extent
 made_extent unsigned ds rows e le =
     let len = text_len unsigned ds in
@@ -186,7 +186,7 @@ made_verdict : (unsigned : Bool) (n : ℕ) (rows : List ℕ) → n ≤ max_bodie
 unfolding verdict judged
 made_verdict unsigned n rows le =
     let lt : n < 2 ^ 64 = omega arith in
-    let short = length-decimal-le 6 n (omega arith) (omega arith) lt in
+    let short = length-decimal-le 7 n (omega arith) (omega arith) lt in
     let front_is = ap (take (length (text_1 unsigned (printed n ++ 93 ∷ 59 ∷ 10 ∷ [])))) (two_parts unsigned (printed n) rows) ∙ take-append_seam (text_1 unsigned (printed n ++ 93 ∷ 59 ∷ 10 ∷ [])) (last_line rows) in
     rw (made_extent unsigned (printed n) rows (digits_decimal own n lt) short, front_is, reads unsigned n lt) refl
 

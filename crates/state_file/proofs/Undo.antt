@@ -1,5 +1,5 @@
 -- Steps of a file, and the same steps back.
-use Rattle.std.proofs.Common.{◌≡◌, ℕ, zero, suc, ◌-◌, ◌^◌, Bool, true, List, [], ◌∷◌, ◌++◌, length, map, Ok, Err, ℤ, pos, negsuc, refl, sym, subst, ◌∙◌, ap, append_assoc, arith}
+use Rattle.std.proofs.Common.{◌≡◌, ℕ, zero, suc, ◌+◌, ◌-◌, ◌^◌, ◌≤◌, Bool, true, List, [], ◌∷◌, ◌++◌, length, map, Ok, Err, ℤ, pos, negsuc, refl, sym, subst, ◌∙◌, ap, append_assoc, arith}
 use Rattle.std.specs.Prelude.{All, flat_map, drop, Result}
 use Rattle.std.proofs.lemmas.Int.{ints}
 use Rattle.std.proofs.lemmas.List.{append-nil, length-map}
@@ -7,12 +7,14 @@ use Rattle.std.proofs.lemmas.Bool.{leb-true}
 use Rattle.std.proofs.Math.Bool.{and-true}
 use Rattle.std.proofs.Math.Dec.{leb}
 use Rattle.std.proofs.lemmas.List.Elements.{All-nil, All-cons, All-head, All-tail}
+use Rattle.std.proofs.lemmas.List.Sums.{sum_by-cons}
 use Rattle.hot_units.specs.Values.{BodyValue, Vector}
-use Rattle.hot_units.specs.Bodies.{IsBody}
+use Rattle.hot_units.specs.Limits.{max_all_mass}
+use Rattle.hot_units.specs.Bodies.{IsBody, mass_of, mass_of_body}
 use Rattle.hot_units.specs.declared.cube.Axis.TheVariants.{X, Y, Z}
 use Rattle.sdf_header.specs.Layouts.{LayoutValue}
 use Rattle.sdf_rows.specs.Rows.{rows}
-use Rattle.leap_frog.specs.Leap.{Moving, ForceLaw, Leaver, Stop, bodies_of, unless, kicked_by, kicked, drifted, leaving, leavers, step, steps, steps_from, steps_back, IsPlaced}
+use Rattle.leap_frog.specs.Leap.{Moving, ForceLaw, Leaver, Stop, bodies_of, unless, kicked_by, kicked, drifted, leaving, leavers, put, place_after, step, steps, steps_from, steps_back, IsPlaced}
 use Rattle.leap_frog.proofs.Undo.{steps-undo, append_nothing, unless-passed, parts, steps-is}
 use Rattle.leap_frog.proofs.Steps.{sound-one, same-rows, row_of}
 use Rattle.state_file.specs.Texts.{StateFile, HasState, CanBeWritten, IsSigned, IsWritable, state_text, state_of_rows, is_unsigned}
@@ -68,10 +70,11 @@ all-writable (m ∷ s) h =
 
 -- ---- what steps keep
 
--- bodies stay sound, and keep their rows
+-- bodies stay sound, and keep their rows and all mass
 pub record Keeps (s t : List Moving) : Type 0 where
   pub sound : All IsBody (bodies_of s) → All IsBody (bodies_of t)
   pub rows : map row_of (bodies_of t) ≡ map row_of (bodies_of s)
+  pub mass : mass_of (bodies_of t) ≡ mass_of (bodies_of s)
 
 -- a drift in the cube keeps bodies sound
 drifted-sound : (s : List Moving) → leavers s ≡ [] → All IsBody (bodies_of s) → All IsBody (bodies_of (drifted s))
@@ -85,12 +88,19 @@ drifted-rows : (s : List Moving) → map row_of (bodies_of (drifted s)) ≡ map 
 drifted-rows [] = refl
 drifted-rows (m ∷ s) = ap (λ (x : List ℕ). m.body.row ∷ x) (drifted-rows s)
 
+-- a drift keeps all mass
+drifted-mass : (s : List Moving) → mass_of (bodies_of (drifted s)) ≡ mass_of (bodies_of s)
+drifted-mass [] = refl
+drifted-mass (m ∷ s) =
+    let moved : BodyValue = (put (place_after m) m).body in
+    omega (arith, sum_by-cons mass_of_body m.body (bodies_of s), sum_by-cons mass_of_body moved (bodies_of (drifted s)), drifted-mass s)
+
 -- a kick keeps the bodies
 kicked-bodies : (f : BodyValue → Vector) (s : List Moving) → bodies_of (map (λ (m : Moving). kicked_by (f m.body) m) s) ≡ bodies_of s
 kicked-bodies f [] = refl
 kicked-bodies f (m ∷ s) = ap (λ (x : List BodyValue). m.body ∷ x) (kicked-bodies f s)
 
--- a step keeps bodies sound, and rows
+-- a step keeps bodies sound, and rows and all mass
 step-keeps : (law : ForceLaw) (s t : List Moving) → step law s ≡ Ok t → Keeps s t
 step-keeps law s t h =
     let made = steps-is law s t h in
@@ -102,17 +112,18 @@ step-keeps law s t h =
     record {
       sound = λ b. subst P (sym last) (drifted-sound k made.nobody_leaves (subst P (sym first) b));
       rows = ap (map row_of) last ∙ (drifted-rows k ∙ ap (map row_of) first);
+      mass = ap mass_of last ∙ (drifted-mass k ∙ ap mass_of first);
     }
 
--- steps keep bodies sound, and rows
+-- steps keep bodies sound, and rows and all mass
 steps-keep : (law : ForceLaw) (k n : ℕ) (s t : List Moving) → steps_from law k n s ≡ Ok t → Keeps s t
 unfolding steps_from
-steps-keep law k zero s t h = let same : s ≡ t = cc in let P : List Moving → Type 0 = λ x. Keeps s x in subst P same (record { sound = λ b. b; rows = refl })
+steps-keep law k zero s t h = let same : s ≡ t = cc in let P : List Moving → Type 0 = λ x. Keeps s x in subst P same (record { sound = λ b. b; rows = refl; mass = refl })
 steps-keep law k (suc n) s t h =
     let p = parts law k n s t h in
     let one = step-keeps law s p.between p.first in
     let more = steps-keep law (suc k) n p.between t p.others in
-    record { sound = λ b. more.sound (one.sound b); rows = more.rows ∙ one.rows }
+    record { sound = λ b. more.sound (one.sound b); rows = more.rows ∙ one.rows; mass = more.mass ∙ one.mass }
 
 -- sound bodies are in the cube
 placed : (s : List Moving) → All IsBody (bodies_of s) → All IsPlaced s
@@ -151,10 +162,12 @@ can-be-written : (f : StateFile) (t : List Moving) → IsRead f → Keeps f.stat
 can-be-written f t r k none =
     let long : length t ≡ length f.state = sym (length-rows t) ∙ (ap length k.rows ∙ length-rows f.state) in
     let few = r.few in
+    let Q : ℕ → Type 0 = λ n. n ≤ max_all_mass in
     record {
       sound = k.sound r.sound;
       rows = same-rows (bodies_of t) (bodies_of f.state) k.rows r.rows;
       few = omega arith;
+      light = subst Q (sym k.mass) r.light;
       idents_too = r.idents_too ∙ sym long;
       named = r.named;
       slow = all-writable t none;

@@ -1,9 +1,9 @@
 -- The body file of a state, and what a body file holds.
 use Rattle.std.specs.Prelude.{◌≡◌, ℕ, suc, ◌-◌, ◌^◌, ◌≤◌, ℤ, pos, negsuc, ◌≤ℤ◌, Bool, true, false, List, [], ◌∷◌, ◌++◌, length, map, drop, All, Option, Some, None, Ok}
 use Rattle.byteorder.specs.Endian.{little_bytes}
-use Rattle.hot_units.specs.Limits.{max_bodies}
+use Rattle.hot_units.specs.Limits.{max_bodies, max_all_mass}
 use Rattle.hot_units.specs.Values.{CubeValue, Vector}
-use Rattle.hot_units.specs.Bodies.{RowsCount, IsBody}
+use Rattle.hot_units.specs.Bodies.{mass_of, RowsCount, IsBody}
 use Rattle.sdf_header.specs.declared.kind.Whole.{Whole}
 use Rattle.sdf_header.specs.declared.kind.Whole.TheVariants as wholes
 use Rattle.sdf_header.specs.declared.layout.Col.{Col}
@@ -12,7 +12,7 @@ use Rattle.sdf_header.specs.Verdict.{verdict}
 use Rattle.hot_units.specs.declared.raw_row.RawRow.{RawRow}
 use Rattle.sdf_rows.specs.Rows.{rows}
 use Rattle.body_set.specs.Sets.{set_of_rows}
-use Rattle.body_file.specs.Faults.{decided}
+use Rattle.body_file.specs.Files.{fault_of, HasBodies}
 use Rattle.leap_frog.specs.Leap.{Moving, bodies_of}
 use Rattle.leap_frog.specs.States.{moving}
 use Rattle.state_file.specs.Headers.{state_header}
@@ -72,11 +72,11 @@ abbrev pub is_unsigned : Option Col → Bool
 is_unsigned None = false
 is_unsigned (Some col) = is_u64 col.kind
 
--- the file has no fault, and this is its state with the idents of its rows
+-- the file, alone in a list of files, has no fault, and its bodies, velocities and idents are those of this state
 pub record HasState (bytes : List ℕ) (f : StateFile) : Type 0 where
   pub layout : LayoutValue
   pub header : verdict bytes ≡ Ok layout
-  pub good : decided true bytes ≡ None
+  pub read : HasBodies (bytes ∷ []) (set_of_rows layout.cube (rows layout (drop layout.header_len bytes)))
   pub unsigned : f.unsigned ≡ is_unsigned layout.ident
   pub state : f.state ≡ state_of_rows layout.cube (rows layout (drop layout.header_len bytes))
   pub idents : f.idents ≡ map (λ raw. raw.ident) (rows layout (drop layout.header_len bytes))
@@ -102,11 +102,13 @@ pub record IsWritable (m : Moving) : Type 0 where
   pub y : IsSigned m.velocity.y
   pub z : IsSigned m.velocity.z
 
--- a state that can be written: bodies in the cube, numbered by their places, and numbers that fit their columns
+-- a state that can be written: bodies in the cube, numbered by their places, not too many and not too heavy together, and
+-- numbers that fit their columns
 pub record CanBeWritten (f : StateFile) : Type 0 where
   pub sound : All IsBody (bodies_of f.state)
   pub rows : RowsCount (bodies_of f.state)
   pub few : length f.state ≤ max_bodies
+  pub light : mass_of (bodies_of f.state) ≤ max_all_mass
   pub idents_too : length f.idents ≡ length f.state
   pub named : All (FitsIdent f.unsigned) f.idents
   pub slow : All IsWritable f.state
@@ -115,6 +117,6 @@ pub record CanBeWritten (f : StateFile) : Type 0 where
 abbrev pub StatesReadBack : Type 0
 StatesReadBack = (f : StateFile) → CanBeWritten f → HasState (state_text f) f
 
--- A file without a fault has a state.
+-- A file that has no fault, alone in a list of files, has a state.
 abbrev pub FilesHaveStates : Type 0
-FilesHaveStates = (bytes : List ℕ) → decided true bytes ≡ None → (f : StateFile) × HasState bytes f
+FilesHaveStates = (bytes : List ℕ) → fault_of (bytes ∷ []) ≡ None → (f : StateFile) × HasState bytes f

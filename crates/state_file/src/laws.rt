@@ -7,8 +7,8 @@ ghost use Rattle.state_file.specs.Headers.{StateHeaderReads};
 ghost use Rattle.state_file.specs.Texts.{FilesHaveStates, StatesReadBack};
 ghost use Rattle.state_file.specs.Commands.{FilesUndo};
 
-/// The header of the file of `_count` bodies (at most 262,144) has their layout, for either type of
-/// idents and whatever rows follow.
+/// The header of the file of `_count` bodies (at most 1,048,576) has their layout, for either type
+/// of idents and whatever rows follow.
 ///
 /// The body does nothing: the contract is the law.
 pub fn state_header_reads(_unsigned: bool, _count: u32)
@@ -16,16 +16,17 @@ pub fn state_header_reads(_unsigned: bool, _count: u32)
     ensures law { StateHeaderReads _unsigned _count }
 {}
 
-/// A body file without a fault has a state: its bodies, and the columns `vx`, `vy`, `vz` as their
-/// velocities, 0 where there is none.
+/// A body file that has no fault, alone in a list of files, has a state: its bodies, and the columns
+/// `vx`, `vy`, `vz` as their velocities, 0 where there is none.
 ///
 /// The body does nothing: the contract is the law.
 pub fn files_have_states()
     ensures law { FilesHaveStates }
 {}
 
-/// The file of a state that can be written has no fault, and holds that state with its idents. That
-/// is a state whose velocities fit 8 signed bytes, with idents that fit their column.
+/// The file of a state that can be written has no fault, alone in a list of files, and holds that
+/// state with its idents. That is a state of at most 1,048,576 bodies, whose mass is at most 2^40
+/// together, whose velocities fit 8 signed bytes, with idents that fit their column.
 ///
 /// The body does nothing: the contract is the law.
 pub fn states_read_back()
