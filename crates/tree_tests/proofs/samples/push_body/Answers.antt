@@ -1,7 +1,8 @@
 use Rattle.std.proofs.Common.{◌≡◌, ◌<◌, ◌≤◌, ◌-◌, length, get_or, rules, arith, subst, sym}
 use Rattle.hot_units.specs.Values.{BodyValue}
 use Rattle.hot_units.specs.Keys.{key_of_body}
-use Rattle.hot_units.specs.Bodies.{IsBody}
+use Rattle.hot_units.specs.Bodies.{IsBody, mass_of}
+use Rattle.hot_units.specs.Limits.{max_bodies, max_all_mass}
 use Rattle.defer_walk.specs.Listing.{IsListing}
 use Rattle.tree_tests.proofs.Listings.{listing_more}
 use Rattle.tree_tests.proofs.samples.push_body.Goals as goal
@@ -10,7 +11,7 @@ pub returns : goal.returns
 returns g c =
     let xs = c.args.bodies.now.items in
     let b : BodyValue = c.expect-body.result in
-    let few : length xs < 262144 = search rules in
+    let few : length xs < max_bodies = search rules in
     let row : b.row ≡ length xs = search rules in
     let i : IsBody b = subst (λ (z : BodyValue). IsBody z) c.body.view_is (record { x_in = c.body.invariant.0; y_in = c.body.invariant.1; z_in = c.body.invariant.2; weighs = c.body.invariant.3; light = c.body.invariant.4 }) in
     let key : c.last_key.result ≤ key_of_body b = subst (λ (z : BodyValue). c.last_key.result ≤ key_of_body z) c.body.view_is (rw c.body.invariant.5 at (let k : c.last_key.result ≤ c.body.inside.key = search rules in k)) in
