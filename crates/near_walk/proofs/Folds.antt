@@ -1,10 +1,9 @@
 -- What the terms of a walk leave: the rows of all neighbours.
 use Rattle.std.proofs.Common.{ℕ, zero, suc, ◌≡◌, ◌+◌, ◌-◌, ◌<◌, ◌≤◌, Bool, true, false, cond, eqb, leb, List, [], ◌∷◌, length, map, filter, flat_map, fold, sum_by, sym, refl, ap, ◌∙◌, subst, arith}
 use Rattle.std.specs.Prelude.{All, Contains}
-use Rattle.std.proofs.lemmas.Bool.{cases_Bool}
 use Rattle.std.proofs.lemmas.List.Sums.{sum_by-cons}
 use Rattle.std.proofs.lemmas.List.Elements.{All-contains}
-use Rattle.hot_units.specs.Values.{BodyValue, CellValue, place}
+use Rattle.hot_units.specs.Values.{BodyValue, CellValue}
 use Rattle.hot_units.specs.Keys.{IsCell, HasLevel, digits, child}
 use Rattle.hot_units.specs.Bodies.{IsBody, mass_of}
 use Rattle.hot_units.proofs.Members.{head_has, tail_has}

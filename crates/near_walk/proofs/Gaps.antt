@@ -1,10 +1,10 @@
 -- Distances of places from boxes.
-use Rattle.std.proofs.Common.{ℕ, ◌≡◌, ◌+◌, ◌-◌, ◌*◌, ◌/◌, ◌^◌, ◌<◌, ◌≤◌, Bool, true, false, not, eqb, leb, sym, refl, ap, ◌∙◌, subst, arith}
+use Rattle.std.proofs.Common.{ℕ, ◌≡◌, ◌+◌, ◌-◌, ◌*◌, ◌/◌, ◌^◌, ◌<◌, ◌≤◌, true, false, not, eqb, leb, sym, refl, arith}
 use Rattle.std.proofs.Math.Nat.{div-eq_of_lt-le}
 use Rattle.std.proofs.lemmas.Nat.{mul-le}
 use Rattle.std.proofs.lemmas.Bool.{leb-false, lt-leb, and_right}
 use Rattle.hot_units.specs.Values.{BodyValue, CellValue, Point, place}
-use Rattle.hot_units.specs.Keys.{IsCell, IsInBox, contains, corner, corner_along, extent, side, level, bits_along}
+use Rattle.hot_units.specs.Keys.{IsCell, IsInBox, contains, corner, extent, side, level, bits_along}
 use Rattle.hot_units.specs.Bodies.{IsBody}
 use Rattle.hot_model.specs.Kernel.{square, apart, distance2}
 use Rattle.hot_model.proofs.Pulls.{distance2-is}

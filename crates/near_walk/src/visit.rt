@@ -61,8 +61,7 @@ impl NearVisit {
     fn is_neighbour(self, b: &Body, other: &Body) -> bool
         ensures value { result ≡ near.is_neighbour self b.now other.now }
     {
-        other.row != b.row
-            && self.reaches(distance2([b.x, b.y, b.z], [other.x, other.y, other.z]))
+        other.row != b.row && self.reaches(distance2([b.x, b.y, b.z], [other.x, other.y, other.z]))
     }
 }
 

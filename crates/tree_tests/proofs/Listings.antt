@@ -8,11 +8,12 @@ use Rattle.std.proofs.lemmas.List.{get_or_append_left, get_or_push, append-nil}
 use Rattle.std.proofs.lemmas.List.Elements.{All-push, filter_more}
 use Rattle.std.proofs.lemmas.List.Folds.{list_all-append}
 use Rattle.std.proofs.lemmas.List.Kept.{IsSortedBy-push}
-use Rattle.hot_units.specs.Limits.{max_bodies}
+use Rattle.std.proofs.lemmas.List.Sums.{sum_by-cons, sum_by-append}
+use Rattle.hot_units.specs.Limits.{max_bodies, max_all_mass}
 use Rattle.hot_units.specs.Values.{BodyValue, CellValue}
 use Rattle.hot_units.specs.Keys.{key_of_body, child}
 use Rattle.hot_units.specs.Order.{before}
-use Rattle.hot_units.specs.Bodies.{RowsCount, IsBody}
+use Rattle.hot_units.specs.Bodies.{RowsCount, IsBody, mass_of}
 use Rattle.rank_model.specs.World.{World, rank_of, record_in}
 use Rattle.rank_model.specs.Branches.{first_rank, one_rank}
 use Rattle.defer_walk.proofs.Descents.{records_to, records_more}
@@ -29,14 +30,20 @@ rows_more xs b h e i d k =
       | inr p ↦ let q : i ≡ length xs = omega (arith, length-append xs (b ∷ []), p, k) in rw (q, get_or_push) e
     ]
 
+-- the mass of one more body
+pub mass_more : (xs : List BodyValue) (b : BodyValue) → mass_of (xs ++ b ∷ []) ≡ mass_of xs + b.mass
+mass_more xs b = omega (arith, sum_by-append (λ (o : BodyValue). o.mass) xs (b ∷ []), sum_by-cons (λ (o : BodyValue). o.mass) b [])
+
 -- one more body, whose key is not below that of the last
 pub listing_more : (xs : List BodyValue) (b : BodyValue) → IsListing xs → IsBody b → length xs < max_bodies → b.row ≡ length xs
+    → mass_of xs + b.mass ≤ max_all_mass
     → ((d : BodyValue) → 0 < length xs → key_of_body (get_or xs (length xs - 1) d) ≤ key_of_body b) → IsListing (xs ++ b ∷ [])
-listing_more xs b h i few row last = record {
+listing_more xs b h i few row light last = record {
   sound = All-push IsBody xs b h.sound i;
   in_order = IsSortedBy-push before xs b h.in_order (λ d p. not_before b (get_or xs (length xs - 1) d) (last d p) (let r = h.counted (length xs - 1) d (omega (arith, p)) in omega (arith, r, row)));
   few = omega (arith, length-append xs (b ∷ []), few);
   counted = rows_more xs b h.counted row;
+  light = omega (arith, mass_more xs b, light);
 }
 
 -- how a filtered list grows by one item

@@ -202,7 +202,7 @@ fn extreme_pulls(rt: HostRuntime) {
 }
 
 /// The record of one octant with a single body, if the body lies there.
-fn octant(digit: u32, at: &Body) -> Option<CellRec>
+pub fn octant(digit: u32, at: &Body) -> Option<CellRec>
     requires { digit < 8 }
     ensures { IfSome result (λ r. 0 < r.count) }
 {

@@ -12,6 +12,8 @@ mod keys;
 #[cfg(test)]
 mod lists;
 #[cfg(test)]
+mod near;
+#[cfg(test)]
 mod records;
 #[cfg(test)]
 mod samples;
@@ -27,3 +29,5 @@ mod trees;
 mod visit_double;
 #[cfg(test)]
 mod walks;
+#[cfg(test)]
+mod wells;

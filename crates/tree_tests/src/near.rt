@@ -1,8 +1,8 @@
 //! Tests of near_walk.
-use crate::samples::bodies_of;
+use crate::kernel::octant;
+use crate::samples::{bodies_of, mass_of};
 use hot_model::{Seen, Visit};
 use hot_units::body_of;
-use moments::of_body;
 use near_walk::limits::MAX_RADIUS;
 use near_walk::{NearAcc, NearVisit};
 use plain_engine::fold_of;
@@ -37,8 +37,7 @@ fn first_has(rt: &impl Abort, alloc: Global, radius: u32, rows: &[[u32; 4]], wan
     let bodies = bodies_of(rt, alloc, rows);
     let first = *bodies.get(0).expect(rt, "a body");
     let acc = fold_of(&visit_of(rt, radius), alloc, &bodies, 1, &first).expect(rt, "memory");
-    let mass = rows.iter().map(|row| u64::from(row[3])).fold(0, |a, m| a.wrapping_add(m));
-    assert_eq!(rt; acc.seen(), mass);
+    assert_eq!(rt; acc.seen(), mass_of(rows));
     rows_are(rt, acc, want);
 }
 
@@ -58,6 +57,42 @@ fn neighbours(rt: HostRuntime) {
     first_has(&rt, rt.alloc(), MAX_RADIUS, &corners, &[1, 2]);
     first_has(&rt, rt.alloc(), LAST, &corners, &[1]);
     first_has(&rt, rt.alloc(), LAST - 1, &corners, &[]);
+}
+
+/// Half the cube's side.
+const HALF: u32 = 268_435_456;
+
+/// The place of a body, an octant, the place of its one body, the radius, and whether the octant is
+/// opened.
+type Opening = ([u32; 3], u32, [u32; 3], u32, bool);
+
+/// Openings by hand: an octant beside is half a side away, whichever way, wherever its body is, and
+/// the one across the root of three times the square of that.
+const OPENINGS: [Opening; 8] = [
+    ([0, 0, 0], 0, [HALF - 1, HALF - 1, HALF - 1], 0, true),
+    ([0, 0, 0], 4, [LAST, LAST - HALF, 0], HALF, true),
+    ([0, 0, 0], 4, [HALF, 0, 0], HALF - 1, false),
+    ([0, LAST, 0], 0, [0, 0, 0], HALF, true),
+    ([0, LAST, 0], 0, [0, HALF - 1, 0], HALF - 1, false),
+    ([HALF, LAST, 5], 6, [LAST, HALF, 5], 0, true),
+    ([0, 0, 0], 7, [LAST, LAST, LAST], 464_943_849, true),
+    ([0, 0, 0], 7, [HALF, HALF, HALF], 464_943_848, false),
+];
+
+/// The opening is as stated.
+fn opening_is(rt: &impl Abort, case: &Opening) {
+    let (from, digit, at, radius, opened) = *case;
+    let body = body_of(from[0], from[1], from[2], 1, 0).expect(rt, "a place");
+    let inside = body_of(at[0], at[1], at[2], 1, 1).expect(rt, "a place");
+    let cell = octant(digit % 8, &inside).expect(rt, "a body of the octant");
+    assert_eq!(rt; visit_of(rt, radius).opens(&body, &cell), opened);
+}
+
+#[test]
+fn openings(rt: HostRuntime) {
+    for case in &OPENINGS {
+        opening_is(&rt, case);
+    }
 }
 
 #[test]

@@ -1,5 +1,5 @@
 -- What the terms of a walk add up to: the potential.
-use Rattle.std.proofs.Common.{ℕ, zero, suc, ◌≡◌, ◌+◌, Bool, true, false, cond, leb, List, [], ◌∷◌, length, map, filter, flat_map, fold, sum_by, sym, refl, ap, ◌∙◌, arith}
+use Rattle.std.proofs.Common.{ℕ, zero, suc, ◌≡◌, ◌+◌, true, leb, List, [], ◌∷◌, length, map, flat_map, sum_by, sym, refl, ◌∙◌, arith}
 use Rattle.std.proofs.lemmas.List.Sums.{sum_by-cons}
 use Rattle.hot_units.specs.Values.{BodyValue}
 use Rattle.hot_units.specs.Keys.{digits, child}

@@ -1,5 +1,5 @@
 -- What a cell and a body add, by the numbers that code has.
-use Rattle.std.proofs.Common.{ℕ, ◌≡◌, ◌≢◌, List, Bool, true, false, eqb, refl}
+use Rattle.std.proofs.Common.{ℕ, ◌≡◌, ◌≢◌, List, true, false, eqb, refl}
 use Rattle.std.proofs.lemmas.Bool.{ne_eqb, eq-eqb}
 use Rattle.hot_units.specs.Values.{BodyValue, CellValue, place, point_at, coordinates}
 use Rattle.hot_model.specs.Kernel.{centre}

@@ -1,5 +1,5 @@
 -- The laws of depths.
-use Rattle.std.specs.Prelude.{ℕ, ◌≡◌, ◌≤◌, ◌<◌, ◌*◌, ◌^◌, List, ◌++◌, [], ◌∷◌}
+use Rattle.std.specs.Prelude.{◌≡◌, ◌≤◌, ◌*◌, ◌^◌, List, ◌++◌, [], ◌∷◌}
 use Rattle.hot_units.specs.Values.{BodyValue}
 use Rattle.hot_units.specs.Bodies.{mass_of}
 use Rattle.hot_model.specs.Trees.{Settings, fold_of, opens_of}

@@ -1,5 +1,5 @@
 -- The sums over all bodies: of mass times depth, and of mass times the square of the speed.
-use Rattle.std.specs.Prelude.{ℕ, ◌+◌, ◌*◌, ℤ, nat_abs, List, map, sum_by}
+use Rattle.std.specs.Prelude.{ℕ, ◌+◌, ◌*◌, nat_abs, List, map, sum_by}
 use Rattle.hot_units.specs.Values.{BodyValue, Vector}
 use Rattle.hot_model.specs.Kernel.{square}
 use Rattle.hot_model.specs.Trees.{Settings}

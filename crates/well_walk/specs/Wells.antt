@@ -1,5 +1,5 @@
 -- How deep a body lies in the field of the others: by one source, and by the recursive walk of the tree.
-use Rattle.std.specs.Prelude.{ℕ, zero, suc, ◌+◌, ◌*◌, ◌/◌, ◌^◌, Bool, true, eqb, leb, not, if◌then◌else◌, List, length, filter, map, sum_by}
+use Rattle.std.specs.Prelude.{ℕ, zero, suc, ◌+◌, ◌*◌, ◌/◌, ◌^◌, Bool, true, eqb, leb, not, if◌then◌else◌, List, length, filter, sum_by}
 use Rattle.hot_units.specs.Limits.{max_level}
 use Rattle.hot_units.specs.Values.{BodyValue, CellValue, Point, place}
 use Rattle.hot_units.specs.Keys.{digits, child}

@@ -53,7 +53,12 @@ fn depth_near(b: &Body, other: &Body, eps: Eps) -> u128
 {
     if other.row != b.row {
         let from = [b.x, b.y, b.z];
-        depth(from, [other.x, other.y, other.z], u64::from(other.mass), eps)
+        depth(
+            from,
+            [other.x, other.y, other.z],
+            u64::from(other.mass),
+            eps,
+        )
     } else {
         0
     }

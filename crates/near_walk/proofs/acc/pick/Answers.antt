@@ -6,5 +6,5 @@ loop-low-init c = around-all c.args.rows.now c.args.i (λ j. (c.type_inv.rows j)
 
 pub returns : goal.returns
 returns c = record {
-  value = around-one c.args.rows.now c.args.i c.loop-low.low c.loop-low.high c.loop-low.invariant c.loop-low-test.false
+  value = around-one c.args.rows.now c.args.i c.loop-low.low c.loop-low.high c.loop-low.invariant c.loop-low-test.false;
 }

@@ -1,4 +1,4 @@
-use Rattle.std.proofs.Common.{◌-◌, ◌<◌, ◌≤◌}
+use Rattle.std.proofs.Common.{◌-◌}
 use Rattle.near_walk.proofs.Picks.{IsAround}
 use Rattle.near_walk.proofs.acc.pick.Given as goal
 

@@ -5,5 +5,5 @@ use Rattle.near_walk.proofs.acc.NearAcc.into_rows.Goals as goal
 
 pub returns : goal.returns
 returns c = record {
-  value = sorted-is _ _ c.sort_unstable.ensures.permutation c.sort_unstable.ensures.sorted ∙ ap (λ (v : NearValue). v.rows) c.self.view_is
+  value = sorted-is _ _ c.sort_unstable.ensures.permutation c.sort_unstable.ensures.sorted ∙ ap (λ (v : NearValue). v.rows) c.self.view_is;
 }

@@ -8,5 +8,5 @@ pub returns-else-i-len : goal.returns-else-i-len
 returns-else-i-len c =
     let h : length c.self.inside.rows.items ≤ c.args.i = omega (arith, c.self.inside.rows.ok.0) in
     record {
-      value = sym (pick-past c.self.inside.rows.items c.args.i h) ∙ ap (λ (v : NearValue). slice_get v.rows c.args.i) c.self.view_is
+      value = sym (pick-past c.self.inside.rows.items c.args.i h) ∙ ap (λ (v : NearValue). slice_get v.rows c.args.i) c.self.view_is;
     }
