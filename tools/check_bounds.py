@@ -29,7 +29,7 @@ from check_program import built_program
 from reference.forces import pull
 
 FINE_BITS = 29
-MAX_BODY_MASS, MAX_ALL_MASS, MAX_SOFTENING = 2**22, 2**40, 2**28
+MAX_BODY_MASS, MAX_ALL_MASS, MAX_SOFTENING = 2**32 - 1, 2**40, 2**28
 SCALE = 200  # bits behind the point
 Q = 1 << SCALE
 NEAR_A_SQUARE = [511, 31, 6]  # gaps: with a softening of 5, 2^20 times the squared distance is a square less 1
@@ -113,7 +113,7 @@ def random_file(rng):
     bodies = []
     for _ in range(count):
         place = [c + (rng.randrange(width) if axis == 0 or not flat else 0) for axis, c in enumerate(corner)]
-        mass = rng.choice([1, MAX_BODY_MASS, any_length(rng, 22) + 1])
+        mass = rng.choice([1, MAX_BODY_MASS, any_length(rng, 32) + 1])
         bodies.append((*place, min(mass, MAX_BODY_MASS)))
     if rng.random() < 0.2:
         bodies.append(bodies[0])

@@ -3,7 +3,8 @@
 Usage: tools/check [--program PATH | --try] [--cases N] [--seed S]
 
 The cases are those worked by hand, files at the limits, streams that fail or have little room, a hundred random files
-whose forces are written as SDF, and N random ones: runs over ranks with weights, mails and reports, generated bodies
+whose forces are written as SDF, two hundred random lists of files, of which some are cut, faulty, named twice or
+standard input, forty files that are also given in several parts (the answer is the same), and N random ones: runs over ranks with weights, mails and reports, generated bodies
 and samples, body files of every layout, trees cut on many ranks, changed headers, spoilt rows, and lists of words. Output, error stream and status are compared. The program
 is the built one, which `./hot` builds where it is not built yet; with --try it is the same source without proof
 (`rt try`), over N of all these cases that take no file, no stream that fails, no odd word and not too many bodies, and
@@ -28,16 +29,19 @@ from cases.calls import good_words, random_call
 from cases.faults import long_header, mutated_header, plain_file, spoilt_rows, wide_header
 from cases.large import large_cases, largest
 from cases.layouts import pick_file
+from cases.lists import MAX_BROKEN, cut_cases, list_case
 from cases.runs import make_case, run_case, sample_case, sdf_case
 from cases.splits import split_case
 from cases.worked import worked
+from cases.worked_lists import worked_lists
 from cases.worked_runs import worked_runs
+from reference.header import MAX_ROWS
 from reference.program import answer
 from unproved import can_try, run_unproved
 
 TOP = os.path.dirname(os.path.dirname(os.path.abspath(__file__)))
 SDF_CASES = 100  # random files whose forces are written as SDF
-MAX_BROKEN = 1024  # bytes that a terminal holds
+LIST_CASES, CUT_CASES = 200, 40  # random lists of files; files that are also given in several parts
 MOST_SHOWN = 10000  # bytes of a text that differs
 STREAMS = ["out", "err"]
 LIMITED = """import os, resource, sys
@@ -99,11 +103,12 @@ def stream_cases(rng):
 
 def limit_cases(rng):
     """Files about the limit of rows, with a stated count and without."""
-    files = [(262145, ""), (262145, "262144"), (262143, "262144"), (262145, "262145"), (400, "")]
+    most, more, less = MAX_ROWS, MAX_ROWS + 1, MAX_ROWS - 1
+    files = [(more, ""), (more, most), (less, most), (more, more), (400, "")]
     cases = [Case("limit", ["forces"], plain_file(rng, rows, "x,y,z", count)) for rows, count in files]
     cases.append(Case("limit", ["forces"], cases[0].stdin[:-1]))
     head = b"# SDF\nint cube_bits = 4;\nstruct {int8_t x, y, z;}[];\n# SDF-EOH\n"
-    spread = bytes(rng.randrange(16) for _ in range(3 * 262144))
+    spread = bytes(rng.randrange(16) for _ in range(3 * MAX_ROWS))
     return [*cases, Case("limit", ["split", "--ranks", "64"], head + spread)]
 
 
@@ -129,13 +134,17 @@ def without_room(unread):
     return open(writer, "wb")
 
 
+def put_files(folder, files):
+    for name, data in files.items():
+        with open(os.path.join(folder, name), "wb") as file:
+            file.write(data)
+
+
 def run(program, case):
     """What the program answers, in a folder that has the files of the case."""
     with contextlib.ExitStack() as stack:
         folder = stack.enter_context(tempfile.TemporaryDirectory(prefix="hot-check-"))
-        for name, data in case.files.items():
-            with open(os.path.join(folder, name), "wb") as file:
-                file.write(data)
+        put_files(folder, case.files)
         command = [program, *case.words]
         streams = {"stdout": subprocess.PIPE, "stderr": subprocess.PIPE, "input": case.stdin}
         for stream, room in case.room.items():
@@ -155,17 +164,25 @@ def run(program, case):
     return got.returncode, texts["out"], texts["err"]
 
 
+def all_agree(known, answers):
+    """Ends where the second computation does not answer what is known."""
+    for (case, wanted), got in zip(known, answers):
+        if got != wanted:
+            sys.exit(f"the second computation is wrong at {case.kind} {case.words}: {got} for {wanted}")
+
+
 def gather(rng, count):
     """Pairs of a case and the answer wanted."""
-    pairs = []
-    for case, wanted in [*worked(), *worked_runs()]:
-        if answer(case) != wanted:
-            sys.exit(f"the second computation is wrong at {case}: {answer(case)} for {wanted}")
-        pairs.append((case, wanted))
-    cases = stream_cases(rng) + limit_cases(rng) + large_cases() + [sdf_case(rng) for _ in range(SDF_CASES)]
-    cases += [random_case(rng) for _ in range(count)]
+    known = [*worked(), *worked_runs(), *worked_lists()]
+    cut = [pair for _ in range(CUT_CASES) for pair in cut_cases(rng)]
+    cases = limit_cases(rng) + large_cases() + stream_cases(rng) + [sdf_case(rng) for _ in range(SDF_CASES)]
+    cases += [list_case(rng) for _ in range(LIST_CASES)] + [random_case(rng) for _ in range(count)]
     with ProcessPoolExecutor() as pool:
-        pairs += zip(cases, pool.map(answer, cases, chunksize=8))
+        later = pool.map(answer, cases)
+        all_agree(known, pool.map(answer, [case for case, _ in known]))
+        answers = list(pool.map(answer, cut))
+        all_agree(zip(cut[1::2], answers[::2]), answers[1::2])  # of the parts and of the whole
+        pairs = [*known, *zip(cut, answers), *zip(cases, later)]
     pairs += largest()
     pairs.append((Case("no text", ["forces", b"\xff"]), (2, b"", b"")))
     return pairs
@@ -176,6 +193,10 @@ def show(number, case, wanted, got):
     name = f"/tmp/hot-case-{number}.sdf"
     with open(name, "wb") as file:
         file.write(case.stdin)
+    if case.files:
+        folder = f"/tmp/hot-case-{number}"
+        os.makedirs(folder, exist_ok=True)
+        put_files(folder, case.files)
     print(f"case {number} ({case.kind}) differs: {case.words} < {name} {case.room or ''}", file=sys.stderr)
     for who, (status, out, err) in (("wanted", wanted), ("got", got)):
         texts = (text[:MOST_SHOWN].decode(errors="backslashreplace") for text in (out, err))

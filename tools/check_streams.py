@@ -19,7 +19,8 @@ from check_program import built_program
 
 PIECE = 4096  # the most bytes of one read
 MAX_HEADER = 65536
-MAX_ROWS = 262144
+MAX_ROWS = 1048576
+MAX_GENERATED = 262144  # rows of `make`
 WIDEST = 1024  # the most bytes of a row
 LEAST_MEMORY = 15000  # KB of address space, in which gigabytes of input are read
 GIGABYTES = 16 << 30
@@ -27,6 +28,7 @@ SECONDS = 60
 HEAD = b"# SDF\nint cube_bits = 21;\nstruct { int32_t x, y, z; }[%s];\n# SDF-EOH\n"
 ROWS = bytes(12) + b"\4" + bytes(11)  # at 0 0 0 and 4 0 0
 TWO = HEAD % b"2" + ROWS
+ONE, OTHER = (HEAD % b"1" + it for it in (ROWS[:12], ROWS[12:]))
 FORCES = b"# hot forces 1\n0 1048575 0 0\n1 -1048575 0 0\n# end 2\n"
 WORDS = ["forces", "--eps", "1", "--theta", "0/1"]
 READ_FAULT, WRITE_FAULT = (4, b"", b"hot: read fault\n"), (5, b"", b"hot: write fault\n")
@@ -178,12 +180,43 @@ def endless_trials():
         yield Trial(f"16 GB of rows of {width} bytes", WORDS, many, {"stdin": endless(head)}, taken=most)
 
 
+def list_trials():
+    """Lists of files: each is opened once the one before ended well, and read to its end or to its first fault."""
+    first = {"stdin": given(ONE)}
+    yield Trial("two files", [*WORDS, "one", "other"], (0, FORCES, b""))
+    yield Trial("a file and a pipe", [*WORDS, "one", "-"], (0, FORCES, b""), {"stdin": in_bytes(OTHER)})
+    yield Trial("standard input and a file", [*WORDS, "-", "other"], (0, FORCES, b""), first)
+    yield Trial("two files, standard input closed", [*WORDS, "one", "other"], (0, FORCES, b""), closed=(0,))
+    yield Trial("standard input closed, named second", [*WORDS, "one", "-"], READ_FAULT, closed=(0,))
+    yield Trial("a second file that is not there", [*WORDS, "one", "nowhere"], READ_FAULT)
+    yield Trial("a folder as the second file", [*WORDS, "one", "folder"], READ_FAULT)
+    many = [*["none"] * 14, "one", "other"]
+    yield Trial("sixteen files", [*WORDS, *many], (0, FORCES, b""))
+    yield Trial("two files to a closed output", [*WORDS, "one", "other"], WRITE_FAULT, closed=(1,))
+    # (nobody writes to the pipe with a name: whoever opens it waits)
+    cut, later = (3, b"", b"hot: B1 row 1 is cut short in file 1\n"), (3, b"", b"hot: H1 not an SDF file in file 2\n")
+    yield Trial("a fault before a pipe that nobody writes to", [*WORDS, "cut", "pipe"], cut)
+    yield Trial("a name that is not there before such a pipe", [*WORDS, "nowhere", "pipe"], READ_FAULT)
+    yield Trial("refused words behind such a pipe", [*WORDS, "pipe", "--ranks"], (2, b"", b"hot: A7 extra word --ranks\n"))
+    yield Trial("a fault in the second file", [*WORDS, "one", "sink", "pipe"], later)
+    behind = (3, b"", b"hot: B2 bytes after the last row in file 2\n")
+    taken = len(OTHER) + PIECE
+    yield Trial("16 GB behind the rows of the second file", [*WORDS, "one", "-", "pipe"], behind,
+                {"stdin": endless(OTHER)}, taken=taken, memory=LEAST_MEMORY)
+    many = (3, b"", b"hot: B6 too many rows in file 2\n")
+    taken = len(HEAD) + MAX_ROWS * 12 + PIECE
+    yield Trial("16 GB of rows in the second file", [*WORDS, "one", "-", "pipe"], many,
+                {"stdin": endless(HEAD % b"")}, taken=taken)
+
+
 def furnish(folder):
     """Puts the files that words name into a folder."""
-    for name, data in (("two", TWO), ("cut", TWO[:-1]), ("sink", b"")):
+    files = {"two": TWO, "cut": TWO[:-1], "sink": b"", "one": ONE, "other": OTHER, "none": HEAD % b"0"}
+    for name, data in files.items():
         with open(os.path.join(folder, name), "wb") as file:
             file.write(data)
     os.mkdir(os.path.join(folder, "folder"))
+    os.mkfifo(os.path.join(folder, "pipe"))
     os.symlink("loop", os.path.join(folder, "loop"))
 
 
@@ -223,7 +256,7 @@ def judge(program, trial):
 
 def closed_early(program):
     """What is wrong where the reader of a long output goes away in its midst, or None."""
-    with subprocess.Popen([program, "make", "--bodies", str(MAX_ROWS)], stdout=subprocess.PIPE, stderr=subprocess.PIPE) as made:
+    with subprocess.Popen([program, "make", "--bodies", str(MAX_GENERATED)], stdout=subprocess.PIPE, stderr=subprocess.PIPE) as made:
         front = made.stdout.read(100)
         made.stdout.close()
         line = made.stderr.read()
@@ -245,7 +278,7 @@ def main():
     with tempfile.TemporaryDirectory(prefix="hot-streams-") as folder:
         furnish(folder)
         os.chdir(folder)
-        for trial in [*output_trials(), *input_trials(), *endless_trials()]:
+        for trial in [*output_trials(), *input_trials(), *list_trials(), *endless_trials()]:
             count += 1
             wrong += [(trial.name, fault)] if (fault := judge(program, trial)) else []
         wrong += [("an output that is closed in its midst", fault)] if (fault := closed_early(program)) else []

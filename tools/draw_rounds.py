@@ -22,7 +22,7 @@ from reference.exchange import exchange
 from reference.forces import Walk
 from reference.generator import CUBE_BITS, HEAD, made_places
 from reference.needed import Needs
-from reference.rows import bodies
+from reference.rows import Bodies
 from reference.split import Split
 
 TOP = os.path.dirname(os.path.dirname(os.path.abspath(__file__)))
@@ -98,7 +98,9 @@ def bytes_sent(needs, needed, letters):
 
 def measure(program, places):
     data = file_of(places)
-    found = bodies(data)
+    whole = Bodies()
+    whole.add_file(data)
+    found = whole.found
     results = Walk(found, EPS, RATIO, LEAF, 1).results()
     rows = []
     for ranks in RANKS:

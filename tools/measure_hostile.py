@@ -88,12 +88,12 @@ def spread(number, width):
     return b"".join((k * 0x9E3779B97F4A7C15 >> 40 & 0xFFFFFF).to_bytes(3, "little") + bytes(width - 3) for k in range(number))
 
 
-MANY = 262144
+MANY = 1048576
 ROWS = {
     "65,536 rows of 1,024 bytes": lambda part: WIDE + spread(65536 // part, 1024),
-    "262,144 rows of `[]`, all in one cell": lambda part: BARE + bytes(3 * MANY // part),
-    "262,144 rows of `[]`, all over the cube": lambda part: SPREAD + spread(MANY // part, 3),
-    "a million rows of `[]`": lambda part: BARE + bytes(3 * 1000000 // part),
+    "1,048,576 rows of `[]`, all in one cell": lambda part: BARE + bytes(3 * MANY // part),
+    "1,048,576 rows of `[]`, all over the cube": lambda part: SPREAD + spread(MANY // part, 3),
+    "four million rows of `[]`": lambda part: BARE + bytes(3 * 4000000 // part),
 }
 
 

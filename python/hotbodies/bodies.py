@@ -85,7 +85,7 @@ def write_bodies(
     """Writes a body file, at the scale at which whole numbers lose least (`choose_scale`).
 
     The scale stands in the header, as `hot_length` and `hot_mass`, which the program passes over and `read_bodies` uses.
-    A file with more bodies than the program takes, 262,144, is written too.
+    A file with more bodies than the program takes, 1,048,576, is written too.
 
     Args:
         path: the file's name, or an object with `write` that takes bytes.

@@ -3,8 +3,9 @@
 FINE_BITS = 29  # bits of a fine coordinate: the cube is 2^29 fine units wide
 ACCELERATION_BITS = 40  # a printed acceleration is in units of 2^-40 of mass over squared fine distance
 KEY_LEVELS = 21  # levels of cells below the root, so that the smallest cell is 2^8 fine units wide
-MAX_BODIES = 262_144
-MAX_BODY_MASS = 4_194_304
+MAX_BODIES = 1_048_576
+MAX_FILES = 16
+MAX_BODY_MASS = 2**32 - 1
 MAX_ALL_MASS = 2**40
 MAX_SOFTENING = 2**28  # in fine units; the least is 1
 MAX_RATIO_NUMBER = 1024

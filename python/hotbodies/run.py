@@ -1,6 +1,7 @@
 """Runs of the program `hot`, and accelerations from arrays to arrays."""
 
 import os
+import re
 import shutil
 import subprocess
 import sys
@@ -14,7 +15,7 @@ import numpy as np
 from .bodies import body_bytes
 from .checks import as_masses, as_vectors
 from .forces import read_forces
-from .limits import MAX_LEAF, MAX_MOMENTS, MAX_RANKS, MAX_RATIO_NUMBER
+from .limits import MAX_FILES, MAX_LEAF, MAX_MOMENTS, MAX_RANKS, MAX_RATIO_NUMBER
 from .rounding import rounding_bounds
 
 VARIABLE = "HOT_PROGRAM"  # names the program to run
@@ -29,6 +30,7 @@ class ProgramError(RuntimeError):
         status: 1 not proved or built, 2 words refused, 3 file refused, 4 read fault, 5 write fault, 6 out of memory.
         line: the program's own line, as `B3 row 0 outside the cube on x`.
         code: its first word where it is a code, as `B3`; else an empty text.
+        file: the number, from 1, of the file that was refused where several were named; else None.
     """
 
     def __init__(self, status, text):
@@ -36,6 +38,8 @@ class ProgramError(RuntimeError):
         self.status, self.line = status, lines[-1] if lines else text.strip()
         word = self.line.split(" ")[0]
         self.code = word if word[:1] in tuple("ABH") and word[1:].isdigit() else ""
+        ending = re.search(r" in file (\d+)$", self.line)
+        self.file = int(ending[1]) if status == 3 and ending else None
         super().__init__(f"hot: {self.line}" if self.line else f"hot ended with status {status}")
 
 
@@ -86,7 +90,7 @@ def run_program(words, data=b"", program=None):
     What the script `hot` says while it proves and builds the program goes to the error stream as it comes.
 
     Args:
-        words: the words behind the program's name, without a file.
+        words: the words behind the program's name; without a file at their end standard input is the one file.
         data: the bytes of its standard input.
         program: as `find_program`.
 
@@ -113,6 +117,24 @@ def run_program(words, data=b"", program=None):
     if process.returncode != 0:
         raise ProgramError(process.returncode, "".join(lines[-1:]))
     return output
+
+
+def file_words(paths):
+    """The words that name files, which the program takes together as one list of bodies.
+
+    Args:
+        paths: 1 to 16 names of files. One that begins with `-` gets `./` before it.
+
+    Returns:
+        list: texts, to be the last words of a call.
+
+    Raises:
+        ValueError: there are none, or too many.
+    """
+    names = [os.fspath(path) for path in paths]
+    if not 1 <= len(names) <= MAX_FILES:
+        raise ValueError(f"files are {len(names)}: 1 to {MAX_FILES} are wanted")
+    return [f"./{name}" if name.startswith("-") else name for name in names]
 
 
 def ratio_words(theta):
@@ -148,11 +170,11 @@ def _number(name, value, most):
 
 
 def file_forces(data, scale, theta=0.7, softening=256, leaf=8, ranks=1, program=None, *, moments=1, more=()):
-    """The exact accelerations of the bodies of a body file.
+    """The exact accelerations of the bodies of a body file, or of several files.
 
     Args:
-        data: the bytes of the file.
-        scale: its Scale; a physical unit for the whole numbers.
+        data: the bytes of the file, or a list of the paths of 1 to 16 files with one cube, whose bodies are taken together.
+        scale: its Scale, which several files share (`write_bodies`); a physical unit for the whole numbers.
         theta: the opening ratio, as `ratio_words`; 0 takes every pair of bodies.
         softening: in fine units, a whole number from 1 to 2^28 (`Scale.softening`).
         leaf: the bodies up to which a cell is not parted, 1 to 64.
@@ -162,16 +184,18 @@ def file_forces(data, scale, theta=0.7, softening=256, leaf=8, ranks=1, program=
         more: further words for the program.
 
     Returns:
-        Forces: in the order of the file.
+        Forces: in the order of the file, or of the files.
 
     Raises:
-        ValueError: an option is out of its range.
-        ProgramError: the program refused the file or failed.
+        ValueError: an option is out of its range, or the number of files.
+        ProgramError: the program refused a file or failed; it has the number of the file.
         ProgramMissing: there is no program.
     """
     words = ["forces", "--theta", ratio_words(theta), "--eps", softening]
     words += ["--leaf", _number("leaf", leaf, MAX_LEAF), "--ranks", _number("ranks", ranks, MAX_RANKS)]
     words += ["--moments", _number("moments", moments, MAX_MOMENTS), *more]
+    if isinstance(data, (list, tuple)):
+        return read_forces(run_program([*words, *file_words(data)], program=program), scale)
     return read_forces(run_program(words, data, program), scale)
 
 
@@ -225,7 +249,7 @@ def accelerations(
         ValueError: an array has another shape or an element out of its range (`write_bodies`), an option is out of its
             range, (LossError) more than `loss` would be lost, or `bound` is wanted of second moments, for which none is
             proved.
-        ProgramError: the program refused the bodies (more than 262,144 are `H13`) or failed; it has the program's line.
+        ProgramError: the program refused the bodies (more than 1,048,576 are `H13`) or failed; it has the program's line.
         ProgramMissing: there is no program.
     """
     positions = as_vectors("positions", positions)

@@ -11,10 +11,11 @@ from dataclasses import dataclass
 
 import numpy as np
 
-from .limits import ACCELERATION_BITS, FINE_BITS, MAX_ALL_MASS, MAX_BODY_MASS, MAX_SOFTENING
+from .limits import ACCELERATION_BITS, FINE_BITS, MAX_ALL_MASS, MAX_SOFTENING
 
 TARGETS, SOURCES = 48, 32_768  # bodies at which the losses are estimated, and bodies whose pulls are summed there
 SHARE = 0.9  # the share of the targets whose loss is made least
+HEAVIEST = 2**31  # units of the heaviest mass, a power of two within the limit of one body
 ROOM = 2**FINE_BITS - 4  # units that the bodies may be apart on an axis
 FARTHEST = 2.0**62  # units that a coordinate may be from 0, so that it fits 64 bits
 
@@ -85,16 +86,16 @@ class Losses:
 
 
 def mass_unit(masses):
-    """The least unit with which each mass fits the program's limit of one body, and all of them that of their sum.
+    """A unit with which each mass fits the program's limit of one body, and all of them that of their sum.
 
-    It is the heaviest mass over 2^22, or that times a power of two; so equal masses are exact.
+    It is the heaviest mass over 2^31, or that times the least power of two that fits; so equal masses are exact.
 
     Args:
         masses: float64 of shape (N,), each above 0.
     """
     if len(masses) == 0:
         return 1.0
-    unit = float(masses.max()) / MAX_BODY_MASS
+    unit = float(masses.max()) / HEAVIEST
     while float(np.rint(masses / unit).sum()) > MAX_ALL_MASS:
         unit *= 2
     return unit

@@ -7,6 +7,7 @@ import numpy as np
 from hotbodies import FormatError, LossError, Scale, read_bodies, write_bodies
 from hotbodies.bodies import body_bytes
 from hotbodies.samples import SAMPLES
+from hotbodies.scale import HEAVIEST
 
 PLACES = np.array([[0.1, 0.2, 0.3], [0.4, 0.2, 0.3], [0.1, 0.7, 0.3]])
 TWO = b"# SDF\nparameter byteorder = %s;\nint cube_bits = 21;\nstruct { %s }[];\n# SDF-EOH\n"
@@ -64,8 +65,8 @@ class RoundTrips(unittest.TestCase):
         self.assertEqual(found.rows["x"].tolist(), [-4, 3])
         with self.assertRaisesRegex(ValueError, r"positions\[1, 0\] is 1.0: it is outside the cube"):
             body_bytes([[0.0, 0.0, 0.0], [1.0, 0.0, 0.0]], 1.0, scale=scale)
-        with self.assertRaisesRegex(ValueError, r"masses\[0\] is 3000000.0: 1 to 4194304 units"):
-            body_bytes([[0.0, 0.0, 0.0]], 3e6, scale=scale)
+        with self.assertRaisesRegex(ValueError, r"masses\[0\] is 3000000000.0: 1 to 4294967295 units"):
+            body_bytes([[0.0, 0.0, 0.0]], 3e9, scale=scale)
 
 
 class Reading(unittest.TestCase):
@@ -149,7 +150,7 @@ class Scales(unittest.TestCase):
             _, scale = body_bytes(positions, masses, eps=eps)
             self.assertAlmostEqual(scale.softening(eps) * scale.fine, eps, delta=1e-12)
         _, scale = body_bytes(PLACES, [1.0, 3.0, 7.0])
-        self.assertEqual(scale.mass * 4194304, 7.0)
+        self.assertEqual(scale.mass * HEAVIEST, 7.0)
         self.assertEqual(scale.softening(0.0), 1)
         with self.assertRaisesRegex(ValueError, "eps is -1"):
             scale.softening(-1)

@@ -7,6 +7,7 @@ import numpy as np
 from hotbodies import accelerations, read_bodies, rounding_bounds
 from hotbodies.bodies import body_bytes
 from hotbodies.samples import SAMPLES
+from hotbodies.scale import HEAVIEST
 
 from . import built_program, with_program
 
@@ -38,7 +39,7 @@ class Bounds(unittest.TestCase):
         gap, softening = 4 / scale.fine, scale.softening(0)
         root = 1024 * math.sqrt(gap**2 + softening**2)
         for body, axes in enumerate(rounding_bounds(data, softening)):
-            size = 2**22 * gap * 2**40 / (gap**2 + softening**2) ** 1.5
+            size = HEAVIEST * gap * 2**40 / (gap**2 + softening**2) ** 1.5
             np.testing.assert_allclose(axes, [max(1, size / root), 0, 0], rtol=1e-6)
         wider = rounding_bounds(data, softening, 0.5)
         self.assertTrue((wider >= rounding_bounds(data, softening)).all())

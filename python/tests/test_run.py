@@ -12,8 +12,9 @@ import numpy as np
 
 from hotbodies import Errors, ProgramError, ProgramMissing, Scale, accelerations, direct_accelerations, relative_errors
 from hotbodies import find_program, read_bodies
-from hotbodies.bodies import body_bytes
-from hotbodies.run import file_forces, ratio_words, run_program
+from hotbodies.bodies import body_bytes, write_bodies
+from hotbodies.limits import MAX_BODIES, MAX_FILES
+from hotbodies.run import file_forces, file_words, ratio_words, run_program
 from hotbodies.samples import SAMPLES
 
 from . import built_program, with_program
@@ -44,6 +45,19 @@ class Calls(unittest.TestCase):
         error = caught.exception
         self.assertEqual((error.status, error.line, error.code), (3, "B3 row 0 outside", "B3"))
         self.assertEqual(str(error), "hot: B3 row 0 outside")
+
+    def test_the_file_that_was_refused(self):
+        for line, number in (("B1 row 4 is cut short in file 12", 12), ("H14 cube differs", None)):
+            error = ProgramError(3, f"hot: {line}\n")
+            self.assertEqual((error.line, error.code, error.file), (line, line.split()[0], number))
+        self.assertIsNone(ProgramError(2, "hot: A2 unknown command in file 3\n").file)
+
+    def test_words_of_files(self):
+        self.assertEqual(file_words(["a", "-", "--ranks", "b/-c"]), ["a", "./-", "./--ranks", "b/-c"])
+        self.assertEqual(len(file_words(["a"] * MAX_FILES)), MAX_FILES)
+        for count in (0, MAX_FILES + 1):
+            with self.assertRaisesRegex(ValueError, f"files are {count}: 1 to 16 are wanted"):
+                file_words(["a"] * count)
 
     def test_which_program(self):
         with tempfile.TemporaryDirectory() as folder:
@@ -77,6 +91,22 @@ class Answers(unittest.TestCase):
     def test_two_bodies_exactly(self):
         found = file_forces(TWO_BODIES, Scale(bits=21), theta=0, softening=1, program=self.program)
         self.assertEqual(found.whole.tolist(), [[3145725, 0, 0], [-1048575, 0, 0]])
+
+    def test_several_files_are_one_list(self):
+        positions, masses = SAMPLES["two clusters"](300, 7)
+        data, scale = body_bytes(positions, masses, eps=0.02)
+        whole = file_forces(data, scale, 0.5, 40, program=self.program)
+        with tempfile.TemporaryDirectory() as folder:
+            names = [os.path.join(folder, str(number)) for number in range(MAX_FILES)]
+            for name, part in zip(names, np.array_split(np.arange(300), MAX_FILES)):
+                write_bodies(name, positions[part], masses[part], scale=scale)
+            parts = file_forces(names, scale, 0.5, 40, program=self.program)
+            np.testing.assert_array_equal(parts.whole, whole.whole)
+            np.testing.assert_array_equal(parts.idents, np.arange(300))
+            write_bodies(names[2], positions[:1], masses[:1], scale=Scale(bits=21, length=9.0))
+            with self.assertRaises(ProgramError) as caught:
+                file_forces(names, scale, program=self.program)
+        self.assertEqual((caught.exception.line, caught.exception.file), ("H14 cube differs in file 3", 3))
 
     def test_ratio_0_is_the_direct_sum_within_its_bound(self):
         """A component is off by less than a unit a pull, and each pull by 2^-9 of itself over its distance in units."""
@@ -140,7 +170,7 @@ class Answers(unittest.TestCase):
         cases = {
             "H1 not an SDF file": (b"", []),
             "H11 column x is not whole": (HEAD.replace(b"int32_t x", b"float x"), []),
-            "H13 too many rows 262145": (HEAD.replace(b"[2]", b"[262145]"), []),
+            "H13 too many rows 1048577": (HEAD.replace(b"[2]", b"[1048577]"), []),
             "B1 row 1 is cut short": (TWO_BODIES[:-1], []),
             "B4 row 0 mass out of range": (TWO_BODIES.replace(b"\x01\0\0\0\x04", b"\0\0\0\0\x04"), []),
             "A3 unknown option --no": (b"", ["--no"]),
@@ -153,8 +183,8 @@ class Answers(unittest.TestCase):
             self.assertEqual(error.status, 2 if line[0] == "A" else 3)
 
     def test_too_many_bodies(self):
-        with self.assertRaisesRegex(ProgramError, "H13 too many rows 262145"):
-            accelerations(SAMPLES["uniform box"](262_145, 1)[0], 1.0, program=self.program)
+        with self.assertRaisesRegex(ProgramError, "H13 too many rows 1048577"):
+            accelerations(SAMPLES["uniform box"](MAX_BODIES + 1, 1)[0], 1.0, program=self.program)
 
 
 if __name__ == "__main__":

@@ -78,7 +78,7 @@ def random_words(rng):
         if option != "--report":
             words.append(pick_value(rng, option))
     if rng.random() < (0.5 if words[0] in ("forces", "split") else 0.1):
-        words.append(rng.choice(NAMES))
+        words += [rng.choice(NAMES) for _ in range(rng.choice([1, 1, 1, 2, 3, 16, 17]))]
     if rng.random() < 0.3:
         at = rng.randrange(1, len(words) + 1)
         kind = rng.randrange(4)
@@ -104,7 +104,8 @@ def random_call(rng):
     }
     files["./bodies.sdf"] = files["bodies.sdf"]
     if rng.random() < 0.45:
-        words = [*good_words(rng, rng.choice(["forces", "forces", "forces", "split"])), rng.choice(NAMES)]
+        words = [*good_words(rng, rng.choice(["forces", "forces", "forces", "split"]))]
+        words += [rng.choice(NAMES) for _ in range(rng.choice([1, 1, 1, 1, 2]))]
     else:
         words = random_words(rng)
         while is_long(words):

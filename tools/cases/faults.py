@@ -2,12 +2,13 @@
 
 from cases.layouts import bounds, packed, pick_file
 from reference.header import MAX_MASS
+from reference.rows import MAX_WORK
 
 BYTES = b"# \n\t\f\r/*\"{}[];=,+-.0123456789exX_aZ\x00\x7f\xff"
 TOKENS = """unsigned long struct parameter char int float uint8_t int8_t x y z mass ident work byteorder cube_bits cube_x0
-{ } [ ] ; = , 0 1 -1 +1 1024 1025 262144 262145 18446744073709551615 18446744073709551616 -9223372036854775808
+{ } [ ] ; = , 0 1 -1 +1 1024 1025 1048576 1048577 18446744073709551615 18446744073709551616 -9223372036854775808
 -9223372036854775809 0x 0xfg 0x1e+2 1e 1e5 1.5 1. . .5 1..2 12a - + -- "text" "open /*open / @ $ 21.0 0x78563412 0x12345678
-2018915346 -0 29 30 4194304 4194305 /*/ //""".split()
+2018915346 -0 29 30 4294967295 4294967296 /*/ //""".split()
 
 
 def changed_bytes(rng, text):
@@ -51,7 +52,7 @@ def changed_tokens(rng, tokens):
 
 
 PARAMETERS = ["byteorder", "cube_bits", "cube_x0", "cube_y0", "cube_z0", "mass"]
-VALUES = ["0", "30", "-1", "21.0", "1e1", "word", '"21"', "0x78563412", "0X12345678", "2018915346", "4194304", "4194305"]
+VALUES = ["0", "30", "-1", "21.0", "1e1", "word", '"21"', "0x78563412", "0X12345678", "2018915346", "4294967295", "4294967296"]
 
 
 def bad_parameter(rng, tokens):
@@ -78,7 +79,7 @@ def changed_meaning(rng, tokens):
         at = rng.choice([0, begin, end + 1, len(tokens)])
         return [*tokens[:at], *tokens[begin : end + 1], *tokens[at:]]
     if kind == 1:
-        return [*tokens[: close + 2], rng.choice(["262144", "262145", "0x40001", "18446744073709551615"]), *tokens[end - 1 :]]
+        return [*tokens[: close + 2], rng.choice(["1048576", "1048577", "0x100001", "18446744073709551615"]), *tokens[end - 1 :]]
     if kind <= 3:
         return bad_parameter(rng, tokens)
     at = rng.choice(names)
@@ -92,9 +93,9 @@ def changed_meaning(rng, tokens):
     return [*tokens[: before + 1], rng.choice(["float", "double", "char", "long", "unsigned"]), *tokens[upto:]]
 
 
-def mutated_header(rng):
+def mutated_header(rng, file=None):
     """A file whose header is changed; the rows stay."""
-    file = pick_file(rng, 9)
+    file = file or pick_file(rng, 9)
     kind = rng.random()
     if kind < 0.4:
         for _ in range(rng.choice([1, 1, 1, 2])):
@@ -150,9 +151,9 @@ def long_header(rng):
     return front + middle + back + rng.randbytes(rng.choice([0, 3, 30, 31]))
 
 
-def spoilt_rows(rng):
+def spoilt_rows(rng, file=None):
     """A file with a number out of its range, cut short, or too long."""
-    file = pick_file(rng, 17)
+    file = file or pick_file(rng, 17)
     k = len(file.rows)
     names = [name for name, _, length in file.columns if not length and name in ("x", "y", "z", "mass", "work")]
     names.sort(key=["x", "y", "z", "mass", "work"].index)
@@ -161,7 +162,7 @@ def spoilt_rows(rng):
             name = rng.choice(names if rng.random() < 0.3 else names[3:] or names)
             _, size, signed = file.offset(name)
             low, high = bounds(size, signed)
-            wanted = [0, -1, 1, MAX_MASS, MAX_MASS + 1, 2**32 - 1, 2**32, low, high, rng.randint(low, high)]
+            wanted = [0, -1, 1, MAX_MASS, MAX_MASS + 1, MAX_WORK, MAX_WORK + 1, low, high, rng.randint(low, high)]
             file.put(rng.randrange(k), name, min(high, max(low, rng.choice(wanted))))
     data = file.data(rng)
     kind = rng.random()

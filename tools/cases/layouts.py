@@ -1,6 +1,6 @@
 """Random body files: headers in many spellings, rows of every type, both orders, cubes anywhere."""
 
-from dataclasses import dataclass
+from dataclasses import dataclass, replace
 
 from cases.spelling import joined, spelled, word
 from reference.header import MAX_MASS
@@ -45,6 +45,14 @@ class File:
     def data(self, rng):
         return self.text(rng) + b"".join(self.rows)
 
+    def of_rows(self, rng, rows):
+        """A file of the same columns and values that has these rows."""
+        begin = next(at for at in range(len(self.tokens)) if self.tokens[at : at + 2] == ["struct", "{"])
+        front = self.tokens.index("[", self.tokens.index("}", begin)) + 1
+        back = self.tokens.index("]", front)
+        size = [spelled(rng, len(rows))] if rng.random() < 0.6 else []
+        return replace(self, tokens=[*self.tokens[:front], *size, *self.tokens[back:]], rows=rows)
+
     def offset(self, name):
         """Where a column stands in a row, and its bytes and sign."""
         at = 0
@@ -76,12 +84,14 @@ def pick_number(rng, least, most):
     return rng.choice([*near, rng.randint(least, most)])
 
 
-def pick_type(rng, most_bytes=8):
-    return rng.choice([kind for kind, (size, _) in WHOLE.items() if size <= most_bytes])
+def gaps(kind, bits, corner):
+    """The least and greatest gap from a corner that the type can spell; the first is the greater one where there is none."""
+    low, high = bounds(*WHOLE[kind])
+    return max(0, low - corner), min(2**bits - 1, high - corner)
 
 
-def pick_axis(rng, kind, bits):
-    """The corner of the cube on an axis, and the least and greatest gap that the type can spell."""
+def pick_corner(rng, kind, bits):
+    """The corner of a cube on an axis, some of which the type can spell."""
     low, high = bounds(*WHOLE[kind])
     side = 2**bits
     if rng.random() < 0.3:
@@ -89,10 +99,34 @@ def pick_axis(rng, kind, bits):
     else:
         corner = rng.choice([low, high - side + 1, rng.randint(low - side + 1, high), pick_number(rng, low, high)])
         corner = min(2**64 - 1, max(-(2**63), corner))
-    least, most = max(0, low - corner), min(side - 1, high - corner)
-    if least > most:
-        return pick_axis(rng, kind, bits)
-    return corner, least, most
+    least, most = gaps(kind, bits, corner)
+    return corner if least <= most else pick_corner(rng, kind, bits)
+
+
+@dataclass
+class Cube:
+    bits: int
+    corner: list
+
+    def gaps(self, axis, kind):
+        return gaps(kind, self.bits, self.corner[axis])
+
+    def types(self, axis):
+        """The types that can spell a coordinate inside."""
+        pairs = {kind: self.gaps(axis, kind) for kind in WHOLE}
+        return [kind for kind, (least, most) in pairs.items() if least <= most]
+
+
+def pick_cube(rng):
+    bits = rng.choice([21, rng.randint(1, 29), rng.randint(1, 29)])
+    kinds = [pick_type(rng) for _ in "xyz"]
+    if rng.random() < 0.2:
+        kinds = kinds[:1] * 3
+    return Cube(bits, [pick_corner(rng, kind, bits) for kind in kinds])
+
+
+def pick_type(rng):
+    return rng.choice([*WHOLE])
 
 
 def pick_places(rng, count, axes):
@@ -112,11 +146,16 @@ def pick_places(rng, count, axes):
     return [[gap + corner for gap, (corner, _, _) in zip(place, axes)] for place in places]
 
 
-def pick_columns(rng, work):
+def pick_axis_types(rng, cube):
+    """A type for each coordinate, often the same for all."""
+    able = [cube.types(axis) for axis in range(3)]
+    common = [kind for kind in able[0] if kind in able[1] and kind in able[2]]
+    return [rng.choice(common)] * 3 if common and rng.random() < 0.2 else [rng.choice(kinds) for kinds in able]
+
+
+def pick_columns(rng, work, cube):
     """The columns of a file: those that count, and others between them; `work` is the chance of that column."""
-    columns = [(axis, pick_type(rng), 0) for axis in "xyz"]
-    if rng.random() < 0.2:
-        columns = [(axis, columns[0][1], 0) for axis in "xyz"]
+    columns = [(axis, kind, 0) for axis, kind in zip("xyz", pick_axis_types(rng, cube))]
     for name, chance in (("mass", 0.6), ("ident", 0.5), ("work", work)):
         if rng.random() < chance:
             length = rng.randint(1, 4) if rng.random() < 0.1 else 0
@@ -204,18 +243,24 @@ def pick_rows(rng, columns, axes, count, most_first):
     return rows
 
 
-def pick_file(rng, most_rows=40, counts=COUNTS, work=0.4):
-    """A good body file."""
-    columns = pick_columns(rng, work)
-    kinds = {name: kind for name, kind, _ in columns}
+def cube_numbers(rng, cube):
+    """What a header says of its cube."""
     numbers = {}
-    bits = rng.choice([21, rng.randint(1, 29), rng.randint(1, 29)])
-    if bits != 21 or rng.random() < 0.5:
-        numbers["cube_bits"] = bits
-    axes = [pick_axis(rng, kinds[axis], bits) for axis in "xyz"]
-    for axis, (corner, _, _) in zip("xyz", axes):
+    if cube.bits != 21 or rng.random() < 0.5:
+        numbers["cube_bits"] = cube.bits
+    for axis, corner in zip("xyz", cube.corner):
         if corner or rng.random() < 0.3:
             numbers[f"cube_{axis}0"] = corner
+    return numbers
+
+
+def pick_file(rng, most_rows=40, counts=COUNTS, work=0.4, cube=None):
+    """A good body file, in a cube that may be given."""
+    cube = cube or pick_cube(rng)
+    columns = pick_columns(rng, work, cube)
+    kinds = {name: kind for name, kind, _ in columns}
+    numbers = cube_numbers(rng, cube)
+    axes = [(corner, *gaps(kinds[axis], cube.bits, corner)) for axis, corner in zip("xyz", cube.corner)]
     most_first = rng.random() < 0.4
     if most_first or rng.random() < 0.5:
         numbers["byteorder"] = 0x12345678 if most_first else 0x78563412

@@ -17,8 +17,8 @@ CLOSE = [4530668864071540986, 18365726919353704698, 491621758623898990, 18390725
 HEAD = """# SDF
 int cube_bits = {bits};
 struct {{
-  int32_t x, y, z, mass;
-  uint32_t work;
+  int32_t x, y, z;
+  uint32_t mass, work;
 }}[{count}];
 # SDF-EOH
 """
@@ -102,7 +102,7 @@ def cluster_file(rng):
     weights = pick_weights(rng, count, MAX_WORK) if count and rng.random() < 0.4 else even
     rows = zip(places, pick_masses(rng, count), weights)
     head = HEAD.format(bits=bits, count=count).encode()
-    return head + b"".join(struct.pack("<4iI", *place, mass, weight) for place, mass, weight in rows)
+    return head + b"".join(struct.pack("<3i2I", *place, mass, weight) for place, mass, weight in rows)
 
 
 def any_file(rng):

@@ -121,7 +121,7 @@ BAD_PARAMETERS = [
     "int cube_bits = 0;",
     "int cube_bits = 30;",
     "int mass = 0;",
-    "int mass = 4194305;",
+    "int mass = 4294967296;",
     "parameter byteorder = 0x12345679;",
     "int byteorder = 0;",
     "parameter cube_x0 = word;",
@@ -144,6 +144,16 @@ GOOD_VALUES = {
     "--mail": ["prompt", "last", "single", "0", "00000000000000000005", "18446744073709551615"],
     "--form": ["text"],
 }
+
+
+def wide_masses(*groups):
+    """Bodies at one place, by groups of some number of one mass of 64 bits."""
+    head = b"# SDF\nstruct {int8_t x, y, z; uint64_t mass;}[];\n# SDF-EOH\n"
+    return head + b"".join((bytes(3) + mass.to_bytes(8, "little")) * number for number, mass in groups)
+
+
+# 256 of the heaviest bodies, behind which one of any mass is too much if the mass of a row is 4294967295 again
+HEAVY_WORK = b"# SDF\nparameter mass = 4294967295; struct {int8_t x, y, z; int64_t work;}[];\n# SDF-EOH\n" + bytes(11 * 256)
 WORK = "# SDF\nint mass = 3; struct {int8_t x, y, z; int64_t work;}[1];\n# SDF-EOH\n".encode() + b"\0\0\0"
 
 # words, standard input, status, output or text of refusal
@@ -201,8 +211,16 @@ WORKED = [
     ("forces", file_of(BARE, (2097152, 0, 0)), 3, "B3 row 0 outside the cube on x"),
     ("forces", file_of(BARE, (2097151, 0, 0)), 0, forces("0 0 0 0")),
     ("forces", file_of(MASS, (0, 0, 0, 0)), 3, "B4 row 0 mass out of range"),
-    ("forces", file_of(MASS, (0, 0, 0, 4194305)), 3, "B4 row 0 mass out of range"),
-    ("forces", file_of(MASS, (0, 0, 0, 4194304)), 0, forces("0 0 0 0")),
+    ("forces", file_of(MASS, (0, 0, 0, -1)), 3, "B4 row 0 mass out of range"),
+    ("forces", file_of(MASS, (0, 0, 0, 4194305)), 0, forces("0 0 0 0")),
+    ("forces", wide_masses((1, 4294967295)), 0, forces("0 0 0 0")),
+    ("forces", wide_masses((1, 4294967296)), 3, "B4 row 0 mass out of range"),
+    ("forces", wide_masses((1, 2**64 - 1)), 3, "B4 row 0 mass out of range"),
+    ("forces", wide_masses((256, 4294967295), (1, 256)), 0, forces(*(f"{k} 0 0 0" for k in range(257)))),
+    ("forces", wide_masses((256, 4294967295), (1, 257)), 3, "B7 row 256 mass sum out of range"),
+    ("forces", wide_masses((300, 4294967295)), 3, "B7 row 256 mass sum out of range"),
+    ("forces", HEAVY_WORK + b"\0\0\0" + b"\xff" * 8, 3, "B5 row 256 work out of range"),
+    ("forces", HEAVY_WORK + bytes(11), 3, "B7 row 256 mass sum out of range"),
     ("forces", TWO[:-1], 3, "B1 row 1 is cut short"),
     ("forces", TWO + b"\0", 3, "B2 bytes after the last row"),
     ("forces --eps 1", CONVERTER + converter_rows(bytes(16)), 0, forces("900 2097150 0 0", "17 -2097150 0 0")),
@@ -218,7 +236,8 @@ WORKED = [
     ("forces", header_of(""), 3, "H8 no struct"),
     ("forces", b"", 3, "H1 not an SDF file"),
     ("forces", b"# SDF", 3, "H3 header has no end"),
-    ("forces", file_of(BARE, count=262145), 3, "H13 too many rows 262145"),
+    ("forces", file_of(BARE, count=1048577), 3, "H13 too many rows 1048577"),
+    ("forces", file_of(BARE, count=1048576), 3, "B1 row 0 is cut short"),
     ("forces", header_of(struct_of("char c[1021];")), 0, forces()),
     refused_at("H9 row too wide", struct_of("char ^c[1022];")),
     refused_at("H9 row too wide", struct_of("char ^c[1024 @")),
@@ -243,7 +262,7 @@ WORKED = [
     refused_at("H4 syntax", "^/ float b = 2;"),
     refused_at("H5 unknown type", "float a = 1; ^unsigned long b = 2;"),
     *[("forces", header_of(struct_of("") + f"int cube_bits = {n};"), 0, forces()) for n in ("1", "29")],
-    *[("forces", header_of(struct_of("") + f"int mass = {n};"), 0, forces()) for n in ("1", "4194304")],
+    *[("forces", header_of(struct_of("") + f"int mass = {n};"), 0, forces()) for n in ("1", "4194305", "4294967295")],
     *[("forces", header_of(struct_of("") + text), 3, f"H12 bad parameter {text.split()[1]}") for text in BAD_PARAMETERS],
     *[refused_at("H4 syntax", f"float a = ^{number};") for number in NO_NUMBERS],
     *[("forces", header_of(f"float a = {number};"), 3, "H8 no struct") for number in NUMBERS],
@@ -263,7 +282,7 @@ WORKED = [
     ("forces --leaf 8 --leaf 8", b"", 2, "A5 option given twice --leaf"),
     ("forces --leaf 8 --leaf", b"", 2, "A5 option given twice --leaf"),
     ("forces --ranks 0 f", b"", 2, "A6 bad value 0 for --ranks"),
-    ("forces a b", b"", 2, "A7 extra word a"),
+    ("forces a b", b"", 4, "read fault"),
     ("forces nowhere", b"", 4, "read fault"),
     *[
         (["forces", option, value], b"", 2, f"A6 bad value {value} for {option}")
@@ -281,7 +300,7 @@ WORKED = [
     ("sample --mail", b"", 2, "A4 no value for --mail"),
     ("sample --form sdf", b"", 2, "A3 unknown option --form"),
     ("forces --report --report", b"", 2, "A5 option given twice --report"),
-    ("forces - --eps", b"", 2, "A7 extra word -"),
+    ("forces - --eps", b"", 2, "A7 extra word --eps"),
     ("forces -", file_of(BARE), 0, forces()),
     (["forces", ""], file_of(BARE), 4, "read fault"),
     ("forces --help", b"", 2, "A3 unknown option --help"),
@@ -460,8 +479,8 @@ top 1 count 2 mass 3 sum 536870912 0 0
     ("split --ranks", b"", 2, "A4 no value for --ranks"),
     ("split --ranks 2 --ranks", b"", 2, "A5 option given twice --ranks"),
     ("split --ranks 2 --ranks 2", b"", 2, "A5 option given twice --ranks"),
-    ("split a b", b"", 2, "A7 extra word a"),
-    ("split a --ranks 2", b"", 2, "A7 extra word a"),
+    ("split a b", b"", 4, "read fault"),
+    ("split a --ranks 2", b"", 2, "A7 extra word --ranks"),
     *[
         (["split", "--ranks", value], b"", 2, f"A6 bad value {value} for --ranks")
         for value in ("0", "65", "-1", "", "2.0", "18446744073709551617", "000000000000000000001", "--ranks")
@@ -475,7 +494,7 @@ top 1 count 2 mass 3 sum 536870912 0 0
     ("split", b"", 3, "H1 not an SDF file"),
     ("split", b"# SDF", 3, "H3 header has no end"),
     ("split --ranks 64", FLOAT_X, 3, "H11 column x is not whole"),
-    ("split", file_of(BARE, count=262145), 3, "H13 too many rows 262145"),
+    ("split", file_of(BARE, count=1048577), 3, "H13 too many rows 1048577"),
     ("split --ranks 2", TWO[:-1], 3, "B1 row 1 is cut short"),
     ("split --ranks 2", TWO + b"\0", 3, "B2 bytes after the last row"),
     ("split", file_of(BARE, (2097151, 0, 0), (2097152, 0, 0)), 3, "B3 row 1 outside the cube on x"),

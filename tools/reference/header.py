@@ -8,8 +8,8 @@ MAX_COLUMNS = 64
 MAX_WIDTH = 1024
 MAX_LENGTH = 1024
 MAX_TEXT = 4096
-MAX_ROWS = 262144
-MAX_MASS = 4194304
+MAX_ROWS = 1048576
+MAX_MASS = 2**32 - 1  # of one body
 
 # name: bytes, whole, signed
 TYPES = {
@@ -70,6 +70,9 @@ class Layout:
     corner: tuple
     mass: int
     columns: dict
+
+    def cube(self):
+        return self.bits, self.corner
 
 
 def extent(data):

@@ -6,7 +6,7 @@ from reference.forces import Walk, forces_sdf, forces_text
 from reference.generator import made_bodies, made_file
 from reference.header import Refused
 from reference.report import Run, report_text, sample_text
-from reference.rows import bodies
+from reference.rows import Bodies
 from reference.split import split_text
 from reference.words import read
 
@@ -15,6 +15,9 @@ FORCES = ["--eps", "--theta", "--leaf", "--moments"]  # the options by which the
 
 def line(text):
     return f"hot: {text}\n".encode()
+
+
+READ_FAULT = 4, b"", line("read fault")
 
 
 def is_decided(refused, data):
@@ -45,7 +48,7 @@ def without_file(command, options):
 
 
 def with_bodies(command, options, found):
-    """The answer of a command on the bodies of a file."""
+    """The answer of a command on the bodies of its files."""
     if command == "split":
         return 0, split_text(found, options["--ranks"]).encode(), b""
     results = results_of(found, options)
@@ -58,22 +61,25 @@ def with_bodies(command, options, found):
 def prepared(words, stdin, files, broken):
     """The answer where each stream takes all bytes; where `broken`, standard input fails behind its bytes."""
     try:
-        command, options, file = read(words)
+        command, options, names = read(words)
     except Refused as refused:
         return 2, b"", line(refused)
     if command in ("make", "sample"):
         return without_file(command, options)
-    data = stdin if file == "-" else files.get(file)
-    fails = broken and file == "-"
-    if data is None:
-        return 4, b"", line("read fault")
-    try:
-        found = bodies(data)
-    except Refused as refused:
-        return (4, b"", line("read fault")) if fails and not is_decided(refused, data) else (3, b"", line(refused))
-    if fails:
-        return 4, b"", line("read fault")
-    return with_bodies(command, options, found)
+    whole = Bodies()
+    for number, name in enumerate(names, 1):
+        data = stdin if name == "-" else files.get(name)
+        fails = broken and name == "-"
+        if data is None:
+            return READ_FAULT
+        try:
+            whole.add_file(data)
+        except Refused as refused:
+            ending = f" in file {number}" if len(names) > 1 else ""
+            return READ_FAULT if fails and not is_decided(refused, data) else (3, b"", line(f"{refused}{ending}"))
+        if fails:
+            return READ_FAULT
+    return with_bodies(command, options, whole.found)
 
 
 def answer(case):

@@ -1,4 +1,4 @@
-"""The rows behind a header: the bodies of a file, or its first fault."""
+"""The rows behind the headers: the bodies of a list of files, or the first fault."""
 
 from dataclasses import dataclass
 
@@ -6,6 +6,7 @@ from reference.header import MAX_MASS, MAX_ROWS, Refused, layout
 from reference.keys import FINE_BITS
 
 MAX_WORK = 2**32 - 1
+MAX_ALL_MASS = 2**40
 
 
 @dataclass
@@ -44,19 +45,34 @@ def body(form, k, row):
     return Body(tuple(place), mass, value("ident", k), work)
 
 
-def bodies(data):
-    """The bodies of a file, in its order."""
-    form = layout(data)
-    found = []
-    at = form.length
-    while form.count is None or len(found) < form.count:
-        row = data[at : at + form.width]
-        if not row and form.count is None:
-            return found
+class Bodies:
+    """The bodies of the files so far, in their order."""
+
+    def __init__(self):
+        self.found = []
+        self.cube = None  # of the first file
+        self.mass = 0  # of all bodies
+
+    def add_row(self, form, row):
+        k = len(self.found)
         if len(row) < form.width:
-            raise Refused(f"B1 row {len(found)} is cut short")
-        found.append(body(form, len(found), row))
-        at += form.width
-    if at < len(data):
-        raise Refused("B2 bytes after the last row")
-    return found
+            raise Refused(f"B1 row {k} is cut short")
+        one = body(form, k, row)
+        if self.mass + one.mass > MAX_ALL_MASS:
+            raise Refused(f"B7 row {k} mass sum out of range")
+        self.mass += one.mass
+        self.found.append(one)
+
+    def add_file(self, data):
+        """Adds the bodies of the next file."""
+        form = layout(data)
+        self.cube = self.cube or form.cube()
+        if form.cube() != self.cube:
+            raise Refused("H14 cube differs")
+        rest = len(data) - form.length
+        rows = -(-rest // form.width) if form.count is None else form.count
+        for k in range(rows):
+            at = form.length + k * form.width
+            self.add_row(form, data[at : at + form.width])
+        if rows * form.width < rest:
+            raise Refused("B2 bytes after the last row")

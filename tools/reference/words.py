@@ -2,6 +2,8 @@
 
 from reference.header import Refused
 
+MAX_FILES = 16
+MAX_GENERATED = 262144
 COMMANDS = {
     "forces": ["--ranks", "--theta", "--eps", "--leaf", "--moments", "--mail", "--form", "--report"],
     "split": ["--ranks"],
@@ -13,7 +15,7 @@ LIMITS = {
     "--eps": (1, 268435456),
     "--leaf": (1, 64),
     "--moments": (1, 2),
-    "--bodies": (0, 262144),
+    "--bodies": (0, MAX_GENERATED),
     "--seed": (0, 2**64 - 1),
 }
 DEFAULTS = {
@@ -53,24 +55,34 @@ def value_of(option, word):
     return number(word, *LIMITS[option])
 
 
+def files_of(words):
+    """The files that words name, from the first on that is no option."""
+    files = []
+    for word in words:
+        if word.startswith("--") or len(files) == MAX_FILES or (word == "-" and "-" in files):
+            raise Refused(f"A7 extra word {word}")
+        files.append(word)
+    return files
+
+
 def read(words):
-    """The command, its options, and its file."""
+    """The command, its options, and its files."""
     if not words:
         raise Refused("A1 no command")
     command = words[0]
     if command not in COMMANDS:
         raise Refused(f"A2 unknown command {command}")
-    options, file = {}, "-"
+    options, files = {}, ["-"]
     at = 1
     while at < len(words):
         word = words[at]
         last = at == len(words) - 1
         at += 1
         if not word.startswith("--"):
-            if not last or command not in ("forces", "split"):
+            if command not in ("forces", "split"):
                 raise Refused(f"A7 extra word {word}")
-            file = word
-            continue
+            files = files_of(words[at - 1 :])
+            break
         if word not in COMMANDS[command]:
             raise Refused(f"A3 unknown option {word}")
         if word in options:
@@ -89,4 +101,4 @@ def read(words):
     num, den = options["--theta"]
     if options["--moments"] == 2 and num > den:
         raise Refused("A8 ratio above 1 with --moments 2")
-    return command, options, file
+    return command, options, files
