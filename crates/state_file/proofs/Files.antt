@@ -20,7 +20,7 @@ use Rattle.body_set.proofs.Adding.{rows_add_up}
 use Rattle.body_set.proofs.FirstFault.{first_by_tests}
 use Rattle.body_set.proofs.Growing.{mass_more}
 use Rattle.body_file.specs.Faults.{row_fault, first_refused, ended_by, is_known, decided, decided_behind}
-use Rattle.body_file.specs.Files.{found_in, fault_from, fault_of, set_of_files, HasBodies}
+use Rattle.body_file.specs.Files.{fault_from, fault_of, set_of_files, HasBodies}
 use Rattle.leap_frog.specs.Leap.{Moving, bodies_of}
 use Rattle.leap_frog.specs.States.{moving}
 use Rattle.state_file.specs.Headers.{state_header, state_layout}
