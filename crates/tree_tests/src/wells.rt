@@ -9,6 +9,7 @@ use crate::samples::{bodies_of, mass_of};
 use fixed_kernel::{Eps, Ratio};
 use hot_model::{Seen, Visit};
 use hot_units::body_of;
+use hot_units::limits::MAX_BODY_MASS;
 use plain_engine::fold_of;
 use std::alloc::Global;
 use std::process::Abort;
@@ -111,6 +112,7 @@ fn far_adds_a_cell(rt: HostRuntime) {
     let mut acc = visit.zero(rt.alloc());
     // its bodies are not asked for their rows
     visit.far(&mut acc, &body, &cell).expect(&rt, "memory");
+    assert!(rt; acc.seen() == 3 && inside.mass == 3);
     visit.near(&mut acc, &body, &inside).expect(&rt, "memory");
     assert_eq!(rt; acc.seen(), 6);
     assert_eq!(rt; acc.well, 12_288);
@@ -151,10 +153,11 @@ const SUMS: [(Share, Share, u128, u128); 4] = [
 /// The sums are as stated.
 fn sums_are(rt: &impl Abort, case: &(Share, Share, u128, u128)) {
     let (first, second, wells, speeds) = *case;
-    let mut sums = Sums::new();
+    assert!(rt; first.0 <= MAX_BODY_MASS && second.0 <= MAX_BODY_MASS);
     assert!(rt; first.1 <= DEEPEST && is_slow(first.2));
-    sums.add(first.0, first.1, first.2);
     assert!(rt; second.1 <= DEEPEST && is_slow(second.2));
+    let mut sums = Sums::new();
+    sums.add(first.0, first.1, first.2);
     sums.add(second.0, second.1, second.2);
     assert_eq!(rt; sums.well(), wells);
     assert_eq!(rt; sums.speed(), speeds);
