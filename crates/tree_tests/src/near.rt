@@ -102,6 +102,7 @@ fn rows_come_in_any_order(rt: HostRuntime) {
     let mut acc = visit.zero(rt.alloc());
     for row in [7, 0, 4, 9, 0, 4_294_967_295] {
         let other = body_of(9, 9, 11, 1, row).expect(&rt, "a place");
+        assert!(rt; acc.seen() < 6 && other.mass == 1);
         visit.near(&mut acc, &body, &other).expect(&rt, "memory");
     }
     rows_are(&rt, acc, &[0, 0, 7, 9, 4_294_967_295]);

@@ -9,6 +9,7 @@ use crate::samples::{bodies_of, mass_of};
 use fixed_kernel::{Eps, Ratio};
 use hot_model::{Seen, Visit};
 use hot_units::body_of;
+use hot_units::limits::MAX_BODY_MASS;
 use plain_engine::fold_of;
 use std::alloc::Global;
 use std::process::Abort;
@@ -35,11 +36,29 @@ const DEPTHS: [Depth; 11] = [
     // rounded down
     ([0, 0, 0], [1, 0, 0], 1, 1, 777_555_184_283),
     ([0, 0, 0], [256, 512, 512], 1, 1, 1_431_655_765),
-    ([7, 7, 7], [8, 6, 7], ALL, 1, 698_217_732_253_457_571_855_118),
+    (
+        [7, 7, 7],
+        [8, 6, 7],
+        ALL,
+        1,
+        698_217_732_253_457_571_855_118,
+    ),
     // the greatest distance, mass and softening
     ([0, 0, 0], [LAST, LAST, LAST], 1, 1, 1_182),
-    ([LAST, LAST, LAST], [0, 0, LAST - 1], ALL, 268_435_456, 1_501_199_878_276_892),
-    ([0, LAST, 3], [LAST, 0, 3], ALL - 1, 7, 1_592_262_921_097_278),
+    (
+        [LAST, LAST, LAST],
+        [0, 0, LAST - 1],
+        ALL,
+        268_435_456,
+        1_501_199_878_276_892,
+    ),
+    (
+        [0, LAST, 3],
+        [LAST, 0, 3],
+        ALL - 1,
+        7,
+        1_592_262_921_097_278,
+    ),
 ];
 
 /// The depth is as stated.
@@ -92,11 +111,7 @@ fn wells(rt: HostRuntime) {
 #[test]
 fn a_cell_acts_at_its_centre(rt: HostRuntime) {
     // the cell of both far bodies has its centre in the middle between them
-    let three = [
-        [0, 0, 0, 1],
-        [HALF, 0, 0, 1],
-        [HALF + HALF / 2, 0, 0, 1],
-    ];
+    let three = [[0, 0, 0, 1], [HALF, 0, 0, 1], [HALF + HALF / 2, 0, 0, 1]];
     wells_are(&rt, rt.alloc(), 1, &three, &[6553, 12_288, 10_922]);
     wells_are(&rt, rt.alloc(), 0, &three, &[6826, 12_288, 10_922]);
 }
@@ -111,6 +126,7 @@ fn far_adds_a_cell(rt: HostRuntime) {
     let mut acc = visit.zero(rt.alloc());
     // its bodies are not asked for their rows
     visit.far(&mut acc, &body, &cell).expect(&rt, "memory");
+    assert!(rt; acc.seen() == 3 && inside.mass == 3);
     visit.near(&mut acc, &body, &inside).expect(&rt, "memory");
     assert_eq!(rt; acc.seen(), 6);
     assert_eq!(rt; acc.well, 12_288);
@@ -137,7 +153,12 @@ const FAST: i128 = 4_398_046_511_104;
 
 /// Two bodies, and their sums of mass times depth and of mass times the square of the speed.
 const SUMS: [(Share, Share, u128, u128); 4] = [
-    ((1, 3_221_225_472, [0; 3]), (3, 1_073_741_824, [0; 3]), 6_442_450_944, 0),
+    (
+        (1, 3_221_225_472, [0; 3]),
+        (3, 1_073_741_824, [0; 3]),
+        6_442_450_944,
+        0,
+    ),
     ((2, 0, [-3, 0, 0]), (5, 1, [1, -2, 2]), 5, 63),
     ((1, 0, [FAST, 0, 0]), (1, 7, [0, 0, -FAST]), 7, 1 << 85),
     (
@@ -151,10 +172,11 @@ const SUMS: [(Share, Share, u128, u128); 4] = [
 /// The sums are as stated.
 fn sums_are(rt: &impl Abort, case: &(Share, Share, u128, u128)) {
     let (first, second, wells, speeds) = *case;
-    let mut sums = Sums::new();
+    assert!(rt; first.0 <= MAX_BODY_MASS && second.0 <= MAX_BODY_MASS);
     assert!(rt; first.1 <= DEEPEST && is_slow(first.2));
-    sums.add(first.0, first.1, first.2);
     assert!(rt; second.1 <= DEEPEST && is_slow(second.2));
+    let mut sums = Sums::new();
+    sums.add(first.0, first.1, first.2);
     sums.add(second.0, second.1, second.2);
     assert_eq!(rt; sums.well(), wells);
     assert_eq!(rt; sums.speed(), speeds);
