@@ -1,7 +1,7 @@
 // Calls on lists of files.
-use super::{
-    AMPLE, BROKEN, Ended, PULLS, check, input_of, joined, least_first, list, sink_of,
-};
+ghost use Rattle.std.specs.Prelude.{◌≡◌, None};
+
+use super::{AMPLE, BROKEN, Ended, PULLS, check, input_of, joined, least_first, list, sink_of};
 use crate::{Status, hot_main};
 use hot_io::MemSource;
 use std::alloc::Global;
@@ -11,10 +11,17 @@ use wire::{MemWire, OpenGate};
 
 /// The header of a file of one row, and of one without rows; the same with another cube; and one
 /// whose masses have 64 bits.
-const ONE: &[u8] = b"# SDF\nparameter byteorder = 0x78563412;\nint cube_bits = 21;\nstruct {int32_t x, y, z, mass;}[1];\n# SDF-EOH\n";
-const NONE: &[u8] = b"# SDF\nparameter byteorder = 0x78563412;\nint cube_bits = 21;\nstruct {int32_t x, y, z, mass;}[0];\n# SDF-EOH\n";
-const OTHER: &[u8] = b"# SDF\nparameter byteorder = 0x78563412;\nint cube_bits = 20;\nstruct {int32_t x, y, z, mass;}[1];\n# SDF-EOH\n";
-const WIDE: &[u8] = b"# SDF\nparameter byteorder = 0x78563412;\nint cube_bits = 21;\nstruct {int32_t x, y, z; uint64_t mass;}[1];\n# SDF-EOH\n";
+const ONE: &[u8] =
+    b"# SDF\nparameter byteorder = 0x78563412;\nint cube_bits = 21;\nstruct {int32_t x, y, z, mass;}[1];\n# SDF-EOH\n";
+
+const NONE: &[u8] =
+    b"# SDF\nparameter byteorder = 0x78563412;\nint cube_bits = 21;\nstruct {int32_t x, y, z, mass;}[0];\n# SDF-EOH\n";
+
+const OTHER: &[u8] =
+    b"# SDF\nparameter byteorder = 0x78563412;\nint cube_bits = 20;\nstruct {int32_t x, y, z, mass;}[1];\n# SDF-EOH\n";
+
+const WIDE: &[u8] =
+    b"# SDF\nparameter byteorder = 0x78563412;\nint cube_bits = 21;\nstruct {int32_t x, y, z; uint64_t mass;}[1];\n# SDF-EOH\n";
 
 /// A file: its name, its header, its numbers, and how many bytes are cut off at its end.
 type Part<'a> = (&'a str, &'a [u8], &'a [i32], usize);
@@ -74,6 +81,8 @@ fn check_all<R: Threads + Sync + Abort>(rt: &R, alloc: Global, cases: &[Case<'_>
 }
 
 const FIRST: Part<'static> = ("a", ONE, &[0, 0, 0, 1], 0);
+
+const LIGHT: Part<'static> = ("a", ONE, &[0, 0, 0, 0], 0);
 const SECOND: Part<'static> = ("b", ONE, &[4, 0, 0, 3], 0);
 
 /// Two bodies at one place.
@@ -87,10 +96,28 @@ fn several_files_are_one_list(rt: HostRuntime) {
     let alloc = rt.alloc();
     let cases: [Case<'_>; 5] = [
         ("a b", &[FIRST, SECOND], Status::Done, PULLS, b""),
-        ("a -", &[FIRST, ("-", ONE, &[4, 0, 0, 3], 0)], Status::Done, PULLS, b""),
+        (
+            "a -",
+            &[FIRST, ("-", ONE, &[4, 0, 0, 3], 0)],
+            Status::Done,
+            PULLS,
+            b"",
+        ),
         ("a a", &[FIRST], Status::Done, TWINS, b""),
-        ("a e b", &[FIRST, ("e", NONE, &[], 0), SECOND], Status::Done, PULLS, b""),
-        ("w", &[("w", WIDE, &[0, 0, 0, -1, 0], 0)], Status::Done, ALONE, b""),
+        (
+            "a e b",
+            &[FIRST, ("e", NONE, &[], 0), SECOND],
+            Status::Done,
+            PULLS,
+            b"",
+        ),
+        (
+            "w",
+            &[("w", WIDE, &[0, 0, 0, -1, 0], 0)],
+            Status::Done,
+            ALONE,
+            b"",
+        ),
     ];
     check_all(&rt, alloc, &cases);
 }
@@ -98,7 +125,6 @@ fn several_files_are_one_list(rt: HostRuntime) {
 #[test]
 fn the_first_fault_names_its_file(rt: HostRuntime) {
     let alloc = rt.alloc();
-    let light: Part<'_> = ("a", ONE, &[0, 0, 0, 0], 0);
     let cases: [Case<'_>; 7] = [
         (
             "a b",
@@ -116,14 +142,14 @@ fn the_first_fault_names_its_file(rt: HostRuntime) {
         ),
         (
             "a b",
-            &[light, ("b", OTHER, &[4, 0, 0, 3], 1)],
+            &[LIGHT, ("b", OTHER, &[4, 0, 0, 3], 1)],
             Status::Input,
             b"",
             b"hot: B4 row 0 mass out of range in file 1\n",
         ),
         (
             "a c",
-            &[light],
+            &[LIGHT],
             Status::Input,
             b"",
             b"hot: B4 row 0 mass out of range in file 1\n",

@@ -20,9 +20,9 @@ names-preserved c =
     let first = c.args.first in
     let place = c.names.place in
     let at : slice_get c.args.words.now place ≡ Some c.unwrap.result.now =
-        subst (λ (o : Option (Bor (List ℕ))). MatchOption o (length c.args.words.now ≤ place) (λ (w : Bor (List ℕ)). slice_get c.args.words.now place ≡ Some w.now)) c.unwrap.ensures c.get.ensures.word in
+    subst (λ (o : Option (Bor (List ℕ))). MatchOption o (length c.args.words.now ≤ place) (λ (w : Bor (List ℕ)). slice_get c.args.words.now place ≡ Some w.now)) c.unwrap.ensures c.get.ensures.word in
     let step : first + (place - first) ≡ place = (let low = c.names.auto.place in omega (arith, low)) in
     let next : (place - first) + 1 ≡ (place + 1) - first = (let low = c.names.auto.place in omega (arith, low)) in
     let here : slice_get c.args.words.now (first + (place - first)) ≡ Some c.unwrap.result.now = rw step at in
     rw (c.push-in-names.ensures.items, map-append (λ (name : Bor (List ℕ)). name.now) c.names.names.items (c.unwrap.result ∷ []), c.names.invariant)
-      (sym (sym (ap (λ (k : ℕ). names_at first k c.args.words.now) next) ∙ one_more c.args.words.now first (place - first) c.unwrap.result.now here))
+    (sym (sym (ap (λ (k : ℕ). names_at first k c.args.words.now) next) ∙ one_more c.args.words.now first (place - first) c.unwrap.result.now here))
