@@ -24,7 +24,9 @@ from concurrent.futures import ThreadPoolExecutor
 from cases.calls import BAD, COMMANDS, GOOD, NAMES, OPTIONS, good_words, random_call
 from cases.faults import TOKENS, long_header, mutated_header, spoilt_rows, wide_header
 from cases.layouts import pick_file
+from cases.lists import list_case
 from cases.worked import worked
+from cases.worked_lists import FIRST, NONE, OTHER_BITS, SECOND, worked_lists
 from cases.worked_runs import worked_runs
 from check_program import TOP, built_program
 
@@ -34,9 +36,9 @@ MORE_TOKENS = ["# SDF\n", "# SDF-EOH\n", "}[];", "}[1];", "struct {", "parameter
 
 def corpus(rng):
     """The calls, the inputs, the tokens of words and of inputs from which cases are made."""
-    known = [case for case, _ in [*worked(), *worked_runs()]]
+    known = [case for case, _ in [*worked(), *worked_runs(), *worked_lists()]]
     calls = [case.words for case in known] + [good_words(rng, name) for name in ["forces", "forces", "split"] * 200]
-    calls += [random_call(rng).words for _ in range(200)]
+    calls += [random_call(rng).words for _ in range(200)] + [list_case(rng).words for _ in range(200)]
     inputs = [case.stdin for case in known] + [pick_file(rng, 9).data(rng) for _ in range(200)]
     inputs += [make(rng) for make in (mutated_header, spoilt_rows, wide_header) for _ in range(60)]
     inputs += [long_header(rng) for _ in range(10)]
@@ -62,7 +64,8 @@ def write_corpus(path, rng):
 
 def furnish(folder, rng):
     """Puts the files that words name into a folder."""
-    for name, data in random_call(rng).files.items():
+    files = random_call(rng).files | {"a": FIRST, "b": SECOND, "c": OTHER_BITS, "none": NONE}
+    for name, data in files.items():
         with open(os.path.join(folder, name), "wb") as file:
             file.write(data)
 

@@ -103,7 +103,7 @@ class Answers(unittest.TestCase):
             parts = file_forces(names, scale, 0.5, 40, program=self.program)
             np.testing.assert_array_equal(parts.whole, whole.whole)
             np.testing.assert_array_equal(parts.idents, np.arange(300))
-            write_bodies(names[2], positions[:1], masses[:1], scale=Scale(bits=21, length=9.0))
+            write_bodies(names[2], np.zeros((1, 3)), 1.0, scale=Scale(bits=21))
             with self.assertRaises(ProgramError) as caught:
                 file_forces(names, scale, program=self.program)
         self.assertEqual((caught.exception.line, caught.exception.file), ("H14 cube differs in file 3", 3))

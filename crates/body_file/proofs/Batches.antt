@@ -24,7 +24,6 @@ abbrev bytes_in : List (List ℕ) → ℕ
 bytes_in files = sum_by (λ file. length file) files
 
 module _ {S : Type 0} (s : sources.Ghosts S) (names : List (List ℕ)) (old : S) where
-
   -- before the first file none was given
   pub none_read : s.is_open old ≡ false → AreRead s names [] old old None
   unfolding fault_from set_of_files

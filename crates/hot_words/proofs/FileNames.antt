@@ -173,10 +173,10 @@ names-sound name words faultless = by_place (files_place name words) refl
         let long = length-drop first words in
         let listed = first-none (fault_listed name words) (ratio_fault name words) faultless in
         let good = good-all (drop first words) (length words - first) (omega (arith, long)) (λ k less.
-            let none = codes-none name words (length words - 1) 1 (first + k) listed (omega arith) (omega arith) in
-            let word : word_of words (first + k) ≡ get_or (drop first words) k [] = sym (get_or-drop first words k []) in
-            let e : first + k - first ≡ k = omega arith in
-            let test = file-good _ (sym (code-file name words first (first + k) (omega arith) at) ∙ none) in
-            let extra = extra-not (has_file name) _ test in
-            rw (e, word) at extra) in
+        let none = codes-none name words (length words - 1) 1 (first + k) listed (omega arith) (omega arith) in
+        let word : word_of words (first + k) ≡ get_or (drop first words) k [] = sym (get_or-drop first words k []) in
+        let e : first + k - first ≡ k = omega arith in
+        let test = file-good _ (sym (code-file name words first (first + k) (omega arith) at) ∙ none) in
+        let extra = extra-not (has_file name) _ test in
+        rw (e, word) at extra) in
         record { within = omega arith; few = good.few; plain = good.plain; once = good.once }

@@ -6,9 +6,7 @@ ghost use Rattle.hot_words.specs.Names.{is_input, is_extra};
 ghost use Rattle.hot_words.specs.Faults.{value_fault, option_fault, setting_fault, faults_from};
 ghost use Rattle.hot_words.specs.Faults.{fault_listed, ratio_fault, fault_first};
 
-use crate::places::{
-    ends_words, find_option, has_dashes, may_begin_files, value_follows, word_at,
-};
+use crate::places::{ends_words, find_option, has_dashes, may_begin_files, value_follows, word_at};
 use crate::settings::{moments, ratio};
 use crate::table::{CommandName, is_option, is_value, wants_file, wants_value};
 use crate::word_list::WordList;

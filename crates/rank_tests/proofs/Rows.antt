@@ -41,6 +41,7 @@ three_listed = record {
       (All-cons IsBody (in_row 2) [] (record { x_in = omega arith; y_in = omega arith; z_in = omega arith; weighs = omega arith; light = omega arith }) (All-nil IsBody)));
   in_order = three_in_order;
   few = omega arith;
+  light = omega arith;
   counted = counted;
 }
   where

@@ -21,6 +21,7 @@ listed = record {
   sound = All-cons IsBody near (far ∷ []) (record { x_in = omega arith; y_in = omega arith; z_in = omega arith; weighs = omega arith; light = omega arith }) (All-cons IsBody far [] (record { x_in = omega arith; y_in = omega arith; z_in = omega arith; weighs = omega arith; light = omega arith }) (All-nil IsBody));
   in_order = near_first;
   few = omega arith;
+  light = omega arith;
   counted = counted;
 }
   where
@@ -66,6 +67,7 @@ crowd_listed = record {
       (All-cons IsBody (at_point 4) [] (point_is 4) (All-nil IsBody)))));
   in_order = crowd_in_order;
   few = omega arith;
+  light = omega arith;
   counted = counted;
 }
   where

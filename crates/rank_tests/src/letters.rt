@@ -198,8 +198,8 @@ fn one_byte_changes(rt: HostRuntime) {
     assert_eq!(rt; good_changes(&rt, rt.alloc(), &TELLS), tells);
     assert_eq!(rt; good_changes(&rt, rt.alloc(), &WANTS), 6 + 1938);
     // here the key, the tag and the number of bodies have one good value a place; x, y and z have
-    // 262 each, mass 576, row 517
-    let gives = 6 + 8 + 1 + 4 + 3 * 262 + 576 + 517;
+    // 262 each, mass 1023, row 529
+    let gives = 6 + 8 + 1 + 4 + 3 * 262 + 1023 + 529;
     assert_eq!(rt; good_changes(&rt, rt.alloc(), &GIVES), gives);
 }
 

@@ -83,6 +83,7 @@ fn check_all<R: Threads + Sync + Abort>(rt: &R, alloc: Global, cases: &[Case<'_>
 const FIRST: Part<'static> = ("a", ONE, &[0, 0, 0, 1], 0);
 
 const LIGHT: Part<'static> = ("a", ONE, &[0, 0, 0, 0], 0);
+
 const SECOND: Part<'static> = ("b", ONE, &[4, 0, 0, 3], 0);
 
 /// Two bodies at one place.
