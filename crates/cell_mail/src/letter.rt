@@ -55,8 +55,8 @@ fn spelled<T: Entry>(alloc: Global, kind: u8, items: &[T]) -> Result<Vec<u8>, Al
 }
 
 impl Letter {
-    /// The letter that tells the branches of a rank: at most 262,144 records with at least one body
-    /// each, by strictly ascending key, none in another one. Its bytes are the one spelling.
+    /// The letter that tells the branches of a rank: at most 1,048,576 records with at least one
+    /// body each, by strictly ascending key, none in another one. Its bytes are the one spelling.
     #[tactic(auto, using(crate::proofs::Hints::on_letters))]
     pub fn branches(alloc: Global, from: u32, to: u32, list: &RecList) -> Result<Letter, AllocError>
         requires ranks { letters.AreRanks from to }

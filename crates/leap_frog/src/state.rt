@@ -12,9 +12,9 @@ use hot_units::Body;
 use std::alloc::{AllocError, Global};
 use std::marker::Model;
 
-/// Bodies on their way, in the order of their rows: at most 262,144, of a mass of at most 2^40
-/// together. Velocities are in units of 2^-20 of fine length a step, each component at most 2^81 in
-/// size. Clauses see the list of bodies with their velocities.
+/// Bodies on their way, in the order of their rows: at most 1,048,576, of a mass of at most
+/// 2^40 together. Velocities are in units of 2^-20 of fine length a step, each component at most
+/// 2^81 in size. Clauses see the list of bodies with their velocities.
 #[derive(Drop)]
 pub struct State {
     pub(crate) bodies: Vec<Body>,
@@ -47,7 +47,7 @@ impl State {
 
     /// Adds a body at the end, with the components x, y, z of its velocity in units of 2^-20 of
     /// fine length a step, each at most 2^81 in size. Its row is the length so far, which is below
-    /// 262,144; the mass of all bodies stays at most 2^40. A refusal is want of memory and leaves
+    /// 1,048,576; the mass of all bodies stays at most 2^40. A refusal is want of memory and leaves
     /// the state unchanged.
     #[tactic(auto, using(crate::proofs::States::on_states))]
     pub fn push(&mut self, body: Body, v: [i128; 3]) -> Result<(), AllocError>

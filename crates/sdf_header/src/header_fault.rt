@@ -59,6 +59,6 @@ pub enum HeaderFault {
     /// The first parameter that is not a whole number in its range; of the byte order, not one of
     /// the two marks.
     BadParameter(ParamName),
-    /// The stated number of rows, which is above 262,144.
+    /// The stated number of rows, which is above 1,048,576.
     TooMany(u64),
 }

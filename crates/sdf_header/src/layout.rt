@@ -27,8 +27,8 @@ pub struct Col {
 /// Lengths and offsets are in bytes. A row has 1 to 1,024 bytes, and each column lies in it.
 /// `count` is the stated number of rows, or None where the header states none. `mass_default` is
 /// the mass of each body where no column `mass` gives it. In a layout that the reader gives they
-/// are at most 262,144, and 1 to 4,194,304. The columns are those of the names that bodies use;
-/// arrays and all other columns are passed over. The form is a profile of this project's own, after
+/// are at most 1,048,576, and 1 to 4,294,967,295. The columns are those of the names that bodies
+/// use; arrays and all other columns are passed over. The form is a profile of this project's own, after
 /// the self-describing files of the hashed oct-tree codes (Warren & Salmon 1993; Warren 2013).
 #[derive(Clone, Copy)]
 pub struct Layout {
