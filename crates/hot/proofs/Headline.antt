@@ -13,9 +13,8 @@ use Rattle.protocol.proofs.Keeping.{asks_exactly}
 use Rattle.protocol.proofs.Weights.{times-has, has-times, has_or_not}
 use Rattle.protocol.proofs.Bridges.{asked-times}
 use Rattle.body_set.specs.Sets.{SetValue}
-use Rattle.hot_words.specs.Commands.{JobValue}
 use Rattle.rank_walk.specs.Marks.{HasRun}
-use Rattle.hot.specs.Runs.{WireUse, unused, used, Wired, opens_in, world_in, letters_of, keys_asked, RunLeaves, AsksExactly}
+use Rattle.hot.specs.Runs.{WireUse, unused, used, Wired, RunValue, world_in, letters_of, keys_asked, RunLeaves, AsksExactly}
 
 -- what posted letters weigh in a log they weigh as letters
 posted_letters : (f : Note → ℕ) (log : List Entry) → in_posted f log ≡ in_letters f (letters_of log)
@@ -29,19 +28,19 @@ asked_count : (q c : ℕ) (log : List Entry) → times c (keys_asked q log) ≡ 
 asked_count q c log = asked-times q c (letters_of log) ∙ sym (posted_letters (asks_by q c) log)
 
 -- a run that came to its end
-module _ (job : JobValue) (set : SetValue) (d : Desk) (run : HasRun (opens_in job) (world_in job set) job.mail d) where
-  exact : (q c : ℕ) → (Needs (opens_in job) (world_in job set) q c → in_posted (asks_by q c) d.log ≡ 1) × ((Needs (opens_in job) (world_in job set) q c → ⊥) → in_posted (asks_by q c) d.log ≡ 0)
-  exact q c = asks_exactly (opens_in job) (world_in job set) d.log run.begun.legal run.complete q c
+module _ (run : RunValue) (set : SetValue) (d : Desk) (has : HasRun run.opens (world_in run set) run.mail d) where
+  exact : (q c : ℕ) → (Needs run.opens (world_in run set) q c → in_posted (asks_by q c) d.log ≡ 1) × ((Needs run.opens (world_in run set) q c → ⊥) → in_posted (asks_by q c) d.log ≡ 0)
+  exact q c = asks_exactly run.opens (world_in run set) d.log has.begun.legal has.complete q c
 
   -- a cell is needed or it is not
-  needs_or_not : (q c : ℕ) → Needs (opens_in job) (world_in job set) q c ⊎ (Needs (opens_in job) (world_in job set) q c → ⊥)
-  needs_or_not q c = elim (has_or_not c (needed (opens_in job) (world_in job set) q)) [
-    | inl h ↦ inl ((needed-are (opens_in job) (world_in job set) q c).0 h)
-    | inr z ↦ inr (λ n. let t = times-has c (needed (opens_in job) (world_in job set) q) ((needed-are (opens_in job) (world_in job set) q c).1 n) in omega arith)
+  needs_or_not : (q c : ℕ) → Needs run.opens (world_in run set) q c ⊎ (Needs run.opens (world_in run set) q c → ⊥)
+  needs_or_not q c = elim (has_or_not c (needed run.opens (world_in run set) q)) [
+    | inl h ↦ inl ((needed-are run.opens (world_in run set) q c).0 h)
+    | inr z ↦ inr (λ n. let t = times-has c (needed run.opens (world_in run set) q) ((needed-are run.opens (world_in run set) q c).1 n) in omega arith)
   ]
 
   -- the cells that a rank asked for are those that it needs
-  pub asked_needs : (q c : ℕ) → Contains (keys_asked q d.log) c ↔ Needs (opens_in job) (world_in job set) q c
+  pub asked_needs : (q c : ℕ) → Contains (keys_asked q d.log) c ↔ Needs run.opens (world_in run set) q c
   asked_needs q c = (
     (λ h. elim (needs_or_not q c) [
       | inl n ↦ n
@@ -58,10 +57,10 @@ module _ (job : JobValue) (set : SetValue) (d : Desk) (run : HasRun (opens_in jo
   ]
 
   -- all that the headline says of the wire
-  pub asks : AsksExactly job set d
-  asks = record { ran = run; asked = asked_needs; once = asked_once; letters = run.letters; bound = run.bound; few = λ e. run.few (run.prompt e); mail = run.begun.mail_is }
+  pub asks : AsksExactly run set d
+  asks = record { ran = has; asked = asked_needs; once = asked_once; letters = has.letters; bound = has.bound; few = λ e. has.few (has.prompt e); mail = has.begun.mail_is }
 
 -- the same of the wire after a call
-pub headline : {W : Type 0} (desk : W → Desk) (old new : W) (job : JobValue) (set : SetValue) (wire : WireUse) → Wired desk old new wire → RunLeaves (Some job) set wire → AsksExactly job set (desk new)
-headline desk old new job set unused w left = absurd left
-headline desk old new job set (used d) w left = subst (λ (x : Desk). AsksExactly job set x) (sym w.0) (asks job set d left)
+pub headline : {W : Type 0} (desk : W → Desk) (old new : W) (run : RunValue) (set : SetValue) (wire : WireUse) → Wired desk old new wire → RunLeaves (Some run) set wire → AsksExactly run set (desk new)
+headline desk old new run set unused w left = absurd left
+headline desk old new run set (used d) w left = subst (λ (x : Desk). AsksExactly run set x) (sym w.0) (asks run set d left)

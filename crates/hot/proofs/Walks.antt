@@ -27,14 +27,14 @@ use Rattle.rank_walk.specs.Marks.{HasBegun, HasRun, Leaves}
 use Rattle.run_report.specs.Report.{ReportValue, report_of, SampleValue, sum_of}
 use Rattle.hot_words.specs.Commands.{JobValue}
 use Rattle.rank_set.specs.Places.{ArePlaced}
-use Rattle.hot.specs.Runs.{WireUse, unused, used, Wired, log_of, opens_in, settings_of, world_in, RunLeaves, RunBegan}
+use Rattle.hot.specs.Runs.{WireUse, unused, used, RunValue, Wired, log_of, settings_of, gravity_run, world_in, RunLeaves, RunBegan}
 use Rattle.hot.specs.Texts.{forces_of, run_report, sample_of}
 use Rattle.hot.specs.Prepared.{world_by, gravity_of, IsWalkOf, WalkLeaves, walk_report, report_if, IsRunOf, ComputeLeaves}
 use Rattle.hot.proofs.FileBodies.{forces_back}
 
 -- what a sharing of the run's numbers makes of a set is its world
-pub world_is : (job : JobValue) (set : OrderedValue) (s : Sharing) → s.ranks ≡ job.ranks → s.leaf ≡ job.leaf → shared set s ≡ world_by job set
-world_is job set s r l = cc
+pub world_is : (run : RunValue) (set : OrderedValue) (s : Sharing) → s.ranks ≡ run.ranks → s.leaf ≡ run.leaf → shared set s ≡ world_by run set
+world_is run set s r l = cc
 
 -- what the visit of a run means
 abbrev pub meaning_of : VisitValue → VisitOf Acc3Value
@@ -45,96 +45,105 @@ pub meaning_is : (v : VisitValue) (job : JobValue) → v ≡ record { ratio = jo
 meaning_is v job e = ap meaning_of e
 
 -- one value of the walk for each answer
-module _ {W F : Type 0} (desk : W → Desk) (accs : F → List Acc3Value) (efforts : F → List Effort) (opened : F → List ℕ) (rounds : F → ℕ) (job : JobValue) (set : OrderedValue) (m : VisitOf Acc3Value) (w : World) (mail : Mail) (old new : W)
-    (e : m ≡ gravity_of job) (p : w ≡ world_by job set) (q : mail ≡ job.mail) (kept : (desk new).eager ≡ (desk old).eager) where
+module _ {W F A : Type 0} (desk : W → Desk) (accs : F → List A) (efforts : F → List Effort) (opened : F → List ℕ) (rounds : F → ℕ) (v : VisitOf A) (run : RunValue) (set : OrderedValue) (m : VisitOf A) (w : World) (mail : Mail) (old new : W)
+    (o : v.opens ≡ run.opens) (e : m ≡ v) (p : w ≡ world_by run set) (q : mail ≡ run.mail) (kept : (desk new).eager ≡ (desk old).eager) where
   -- what the walk of a run leaves of the wire, and finds, with some use of the wire
   abbrev pub Walked : Result F AllocError → Type 0
-  Walked r = (wu : WireUse) × Wired desk old new wu × WalkLeaves job set wu r × IfOk r (λ f. IsWalkOf job set (log_of wu) (accs f) (efforts f) (opened f) (rounds f))
+  Walked r = (wu : WireUse) × Wired desk old new wu × WalkLeaves run set wu r × IfOk r (λ f. IsWalkOf v run set (log_of wu) (accs f) (efforts f) (opened f) (rounds f))
+
+  -- what holds by the opened cells, the world and the mail of a walk holds by those of the run
+  by_run : (P : (BodyValue → CellValue → Bool) → World → Mail → Type 0) → P m.opens w mail → P run.opens (world_by run set) run.mail
+  by_run P h =
+      subst (λ (x : Mail). P run.opens (world_by run set) x) q
+      (subst (λ (x : World). P run.opens x mail) p
+      (subst (λ (x : BodyValue → CellValue → Bool). P x w mail) (ap (λ (x : VisitOf A). x.opens) e ∙ o) h))
 
   -- what a walk over ranks finds and leaves is what the walk of the run does
   pub walked : (r : Result F AllocError) → IfOk r (λ f. AreFindsIn m w (accs f) (efforts f) (opened f)) → IfOk r (λ f. rounds f ≡ rounds_in (desk new).log) → Leaves desk m.opens w mail old r new → Walked r
   walked (Ok f) finds n left =
-      let run : HasRun (opens_in job) (world_by job set) job.mail (desk new) =
-      subst (λ (x : Mail). HasRun (opens_in job) (world_by job set) x (desk new)) q (subst (λ (x : World). HasRun (opens_in job) x mail (desk new)) p (subst (λ (x : VisitOf Acc3Value). HasRun x.opens w mail (desk new)) e left)) in
-      let found : AreFindsIn (gravity_of job) (world_by job set) (accs f) (efforts f) (opened f) =
-      subst (λ (x : World). AreFindsIn (gravity_of job) x (accs f) (efforts f) (opened f)) p (subst (λ (x : VisitOf Acc3Value). AreFindsIn x w (accs f) (efforts f) (opened f)) e finds) in
-      (used (desk new), (refl, kept), run, record { finds = found; rounds_are = n })
+      let found : AreFindsIn v (world_by run set) (accs f) (efforts f) (opened f) =
+      subst (λ (x : World). AreFindsIn v x (accs f) (efforts f) (opened f)) p (subst (λ (x : VisitOf A). AreFindsIn x w (accs f) (efforts f) (opened f)) e finds) in
+      (used (desk new), (refl, kept), by_run (λ opens x y. HasRun opens x y (desk new)) left, record { finds = found; rounds_are = n })
   walked (Err x) finds n (inl same) = (unused, same, tt, tt)
-  walked (Err x) finds n (inr begun) =
-      let run : HasBegun (opens_in job) (world_by job set) job.mail (desk new) =
-      subst (λ (x : Mail). HasBegun (opens_in job) (world_by job set) x (desk new)) q (subst (λ (x : World). HasBegun (opens_in job) x mail (desk new)) p (subst (λ (x : VisitOf Acc3Value). HasBegun x.opens w mail (desk new)) e begun)) in
-      (used (desk new), (refl, kept), run, tt)
+  walked (Err x) finds n (inr begun) = (used (desk new), (refl, kept), by_run (λ opens x y. HasBegun opens x y (desk new)) begun, tt)
 
 -- a report that was asked for
-pub reported : (shows : Bool) (job : JobValue) (set : OrderedValue) (log : List Entry) (w : World) (report : ReportValue) → shows ≡ true → w ≡ world_by job set → report ≡ report_of (opens_in job) w log → Some report ≡ walk_report shows job set log
-reported true job set log w report s p told = ap (λ (r : ReportValue). Some r) (told ∙ ap (λ (x : World). report_of (opens_in job) x log) p)
-reported false job set log w report s p told = absurd (cc)
+pub reported : (shows : Bool) (run : RunValue) (set : OrderedValue) (log : List Entry) (w : World) (report : ReportValue) → shows ≡ true → w ≡ world_by run set → report ≡ report_of run.opens w log → Some report ≡ walk_report shows run set log
+reported true run set log w report s p told = ap (λ (r : ReportValue). Some r) (told ∙ ap (λ (x : World). report_of run.opens x log) p)
+reported false run set log w report s p told = absurd (cc)
 
 -- what a walk finds in its world it finds in the world of the sharing
-pub finds_at : (job : JobValue) (set : OrderedValue) (log : List Entry) (accs : List Acc3Value) (efforts : List Effort) (opened : List ℕ) (rounds : ℕ) (w : World) → w ≡ world_by job set
-    → IsWalkOf job set log accs efforts opened rounds → AreFindsIn (gravity_of job) w accs efforts opened
-finds_at job set log accs efforts opened rounds w p walk = subst (λ (x : World). AreFindsIn (gravity_of job) x accs efforts opened) (sym p) walk.finds
+pub finds_at : {A : Type 0} (v : VisitOf A) (run : RunValue) (set : OrderedValue) (log : List Entry) (accs : List A) (efforts : List Effort) (opened : List ℕ) (rounds : ℕ) (w : World) → w ≡ world_by run set
+    → IsWalkOf v run set log accs efforts opened rounds → AreFindsIn v w accs efforts opened
+finds_at v run set log accs efforts opened rounds w p walk = subst (λ (x : World). AreFindsIn v x accs efforts opened) (sym p) walk.finds
 
 -- the forces of a walk, put into the order of the rows
 pub forces_placed : (job : JobValue) (set : SetValue) (o : OrderedValue) (accs placed : List Acc3Value) → o ≡ in_key_order set → RowsCount set.bodies
-    → accs ≡ map (fold_in (gravity_of job) (world_by job o)) o.bodies → ArePlaced o.bodies accs placed → placed ≡ forces_of job set.bodies
+    → accs ≡ map (fold_in (gravity_of job) (world_by (gravity_run job) o)) o.bodies → ArePlaced o.bodies accs placed → placed ≡ forces_of job set.bodies
 forces_placed job set o accs placed e rows found are =
     let bodies : o.bodies ≡ ordered set.bodies = ap (λ (x : OrderedValue). x.bodies) e in
-    let folds : map (fold_in (gravity_of job) (world_by job o)) o.bodies ≡ map (λ b. whole (mass_of o.bodies) (force (settings_of job) o.bodies b)) o.bodies =
+    let folds : map (fold_in (gravity_of job) (world_by (gravity_run job) o)) o.bodies ≡ map (λ b. whole (mass_of o.bodies) (force (settings_of job) o.bodies b)) o.bodies =
     map_same _ _ o.bodies (λ b h. fold-is-force (settings_of job) o.bodies b) in
     let all : accs ≡ map (λ b. whole (mass_of (ordered set.bodies)) (force (settings_of job) (ordered set.bodies) b)) (ordered set.bodies) =
     subst (λ (xs : List BodyValue). accs ≡ map (λ b. whole (mass_of xs) (force (settings_of job) xs b)) xs) bodies (found ∙ folds) in
     forces_back (settings_of job) set.bodies accs placed rows all (subst (λ (xs : List BodyValue). ArePlaced xs accs placed) bodies are)
 
-module _ {W : Type 0} (desk : W → Desk) (job : JobValue) (set : SetValue) (o : OrderedValue) (shows : Bool) (old new : W) (accs : List Acc3Value) (efforts : List Effort) (opened : List ℕ) (rounds : ℕ)
-    (e : o ≡ in_key_order set) where
+-- a walk on a set in key order, and what it leaves of the wire
+module _ {W : Type 0} (desk : W → Desk) (run : RunValue) (set : SetValue) (o : OrderedValue) (old new : W) (e : o ≡ in_key_order set) where
   -- what a walk that came to its end found, with the log that the wire has
-  pub walk_here : {X : Type 0} (x : X) (wu : WireUse) → Wired desk old new wu → WalkLeaves {X = X} job o wu (Ok x) → IsWalkOf job o (log_of wu) accs efforts opened rounds → IsWalkOf job o (desk new).log accs efforts opened rounds
-  walk_here x unused wired left walk = absurd left
-  walk_here x (used d) wired left walk = subst (λ (l : List Entry). IsWalkOf job o l accs efforts opened rounds) (sym (ap (λ (y : Desk). y.log) wired.0)) walk
+  pub walk_here : {A X : Type 0} (v : VisitOf A) (accs : List A) (efforts : List Effort) (opened : List ℕ) (rounds : ℕ) (x : X) (wu : WireUse) → Wired desk old new wu → WalkLeaves {X = X} run o wu (Ok x)
+      → IsWalkOf v run o (log_of wu) accs efforts opened rounds → IsWalkOf v run o (desk new).log accs efforts opened rounds
+  walk_here v accs efforts opened rounds x unused wired left walk = absurd left
+  walk_here v accs efforts opened rounds x (used d) wired left walk = subst (λ (l : List Entry). IsWalkOf v run o l accs efforts opened rounds) (sym (ap (λ (y : Desk). y.log) wired.0)) walk
 
-  -- what a run gives
-  pub ran : {X : Type 0} (x : X) (placed : List Acc3Value) (report : Option ReportValue) (wu : WireUse) → RowsCount set.bodies → Wired desk old new wu → WalkLeaves {X = X} job o wu (Ok x)
-      → IsWalkOf job o (log_of wu) accs efforts opened rounds
-      → report ≡ walk_report shows job o (desk new).log
-      → ArePlaced o.bodies accs placed
-      → (u : WireUse) × Wired desk old new u × RunLeaves (Some job) set u × IsRunOf job set shows (log_of u) o placed report
-  ran x placed report unused rows wired left walk told are = absurd left
-  ran x placed report (used d) rows wired left walk told are =
-      let log : (desk new).log ≡ d.log = ap (λ (y : Desk). y.log) wired.0 in
-      let at = told in (
-        used d,
-        wired,
-        subst (λ (y : OrderedValue). HasRun (opens_in job) (world_by job y) job.mail d) e left,
-        record {
-          ordered_is = e;
-          forces_are = forces_placed job set o accs placed e rows walk.finds.accs_are are;
-          report_is = at ∙ ap (λ (l : List Entry). walk_report shows job o l) log ∙ ap (λ (y : OrderedValue). walk_report shows job y d.log) e;
-        },
-      )
+  -- a walk that came to its end is a run that did
+  pub ran_left : {X : Type 0} (x : X) (wu : WireUse) → WalkLeaves {X = X} run o wu (Ok x) → RunLeaves (Some run) set wu
+  ran_left x unused left = absurd left
+  ran_left x (used d) left = subst (λ (y : OrderedValue). HasRun run.opens (world_by run y) run.mail d) e left
 
   -- a run that came to its end, and then memory was refused
-  pub ran_err : {X Y : Type 0} (x : X) (r : Result Y AllocError) (P : WireUse → Y → Type 0) (wu : WireUse) → IsErr r → Wired desk old new wu → WalkLeaves {X = X} job o wu (Ok x)
-      → (u : WireUse) × Wired desk old new u × ComputeLeaves (Some job) set u r × IfOk r (P u)
+  pub ran_err : {X Y : Type 0} (x : X) (r : Result Y AllocError) (P : WireUse → Y → Type 0) (wu : WireUse) → IsErr r → Wired desk old new wu → WalkLeaves {X = X} run o wu (Ok x)
+      → (u : WireUse) × Wired desk old new u × ComputeLeaves (Some run) set u r × IfOk r (P u)
   ran_err x (Ok y) P wu bad wired left = absurd (cc)
   ran_err x (Err y) P unused bad wired left = absurd left
-  ran_err x (Err y) P (used d) bad wired left = (used d, wired, inr (let h : HasRun (opens_in job) (world_in job set) job.mail d = subst (λ (z : OrderedValue). HasRun (opens_in job) (world_by job z) job.mail d) e left in h.begun), tt)
+  ran_err x (Err y) P (used d) bad wired left = (used d, wired, inr (ran_left x (used d) left).begun, tt)
+
+-- what a run by gravity gives
+pub ran : {W X : Type 0} (desk : W → Desk) (job : JobValue) (set : SetValue) (o : OrderedValue) (shows : Bool) (old new : W) (accs : List Acc3Value) (efforts : List Effort) (opened : List ℕ) (rounds : ℕ)
+    (e : o ≡ in_key_order set) (x : X) (placed : List Acc3Value) (report : Option ReportValue) (wu : WireUse) → RowsCount set.bodies → Wired desk old new wu → WalkLeaves {X = X} (gravity_run job) o wu (Ok x)
+    → IsWalkOf (gravity_of job) (gravity_run job) o (log_of wu) accs efforts opened rounds
+    → report ≡ walk_report shows (gravity_run job) o (desk new).log
+    → ArePlaced o.bodies accs placed
+    → (u : WireUse) × Wired desk old new u × RunLeaves (Some (gravity_run job)) set u × IsRunOf job set shows (log_of u) o placed report
+ran desk job set o shows old new accs efforts opened rounds e x placed report unused rows wired left walk told are = absurd left
+ran desk job set o shows old new accs efforts opened rounds e x placed report (used d) rows wired left walk told are =
+    let log : (desk new).log ≡ d.log = ap (λ (y : Desk). y.log) wired.0 in
+    (
+      used d,
+      wired,
+      ran_left desk (gravity_run job) set o old new e x (used d) left,
+      record {
+        ordered_is = e;
+        forces_are = forces_placed job set o accs placed e rows walk.finds.accs_are are;
+        report_is = told ∙ ap (λ (l : List Entry). walk_report shows (gravity_run job) o l) log ∙ ap (λ (y : OrderedValue). walk_report shows (gravity_run job) y d.log) e;
+      },
+    )
 
 -- how many forces there are
 pub forces_long : (job : JobValue) (bodies : List BodyValue) → length (forces_of job bodies) ≡ length bodies
 forces_long job bodies = length-map bodies (λ b. whole (mass_of bodies) (force (settings_of job) bodies b))
 
 -- a run that came to its end was begun
-pub began : (job : JobValue) (set : SetValue) (u : WireUse) → RunLeaves (Some job) set u → RunBegan (Some job) set u
-began job set unused left = absurd left
-began job set (used d) left = left.begun
+pub began : (run : RunValue) (set : SetValue) (u : WireUse) → RunLeaves (Some run) set u → RunBegan (Some run) set u
+began run set unused left = absurd left
+began run set (used d) left = left.begun
 
 -- a sample of a run whose report is there
 pub sampled : {W : Type 0} (desk : W → Desk) (old new : W) (job : JobValue) (set made : SetValue) (bodies seed : ℕ) (o : OrderedValue) (forces : List Acc3Value) (report : ReportValue) (s : SampleValue)
-    → set ≡ made → (u : WireUse) → Wired desk old new u → RunLeaves (Some job) set u → IsRunOf job set true (log_of u) o forces (Some report)
+    → set ≡ made → (u : WireUse) → Wired desk old new u → RunLeaves (Some (gravity_run job)) set u → IsRunOf job set true (log_of u) o forces (Some report)
     → s ≡ record { bodies = bodies; seed = seed; report = report; sum = sum_of forces }
-    → (wu : WireUse) × Wired desk old new wu × RunLeaves (Some job) made wu × (s ≡ sample_of bodies seed job made (log_of wu))
+    → (wu : WireUse) × Wired desk old new wu × RunLeaves (Some (gravity_run job)) made wu × (s ≡ sample_of bodies seed job made (log_of wu))
 sampled desk old new job set made bodies seed o forces report s e u wired left run is =
-    let rep : report ≡ run_report job set (log_of u) = (let h : Some report ≡ Some (run_report job set (log_of u)) = run.report_is in cc) in
+    let rep : report ≡ run_report (gravity_run job) set (log_of u) = (let h : Some report ≡ Some (run_report (gravity_run job) set (log_of u)) = run.report_is in cc) in
     let sum = ap sum_of run.forces_are in
-    (u, wired, subst (λ (z : SetValue). RunLeaves (Some job) z u) e left, is ∙ (rw (rep, sum, e) refl))
+    (u, wired, subst (λ (z : SetValue). RunLeaves (Some (gravity_run job)) z u) e left, is ∙ (rw (rep, sum, e) refl))

@@ -2,9 +2,10 @@
 use Rattle.std.specs.Prelude.{ℕ, zero, suc, List, [], ◌∷◌, Option, Some, None, Result, Ok, Err, codes}
 use Rattle.std.specs.Option.{unwrap_or}
 use Rattle.hot_words.specs.declared.faults.WordFault.{WordFault}
-use Rattle.hot_words.specs.Commands.{JobValue, CommandValue, forces, split, make, sample}
+use Rattle.hot_words.specs.Commands.{CommandValue, forces, split, make, sample}
 use Rattle.hot_words.specs.Words.{command_of}
 use Rattle.hot_words.specs.Names.{names_at}
+use Rattle.hot.specs.Runs.{RunValue, gravity_run}
 
 -- the place of the first word that names a file of a command, and how many such words there are, where it reads files
 abbrev pub input_of : CommandValue → Option (ℕ × ℕ)
@@ -41,17 +42,17 @@ abbrev pub names_of : List (List ℕ) → List (List ℕ)
 names_of words = unwrap_or (files_named words) []
 
 -- the run over ranks that a command makes, where it makes one
-abbrev pub run_of : CommandValue → Option JobValue
-run_of (forces job) = Some job
+abbrev pub run_of : CommandValue → Option RunValue
+run_of (forces job) = Some (gravity_run job)
 run_of (split ranks first files) = None
 run_of (make bodies seed) = None
-run_of (sample bodies seed job) = Some job
+run_of (sample bodies seed job) = Some (gravity_run job)
 
 -- the same where there is a command
-abbrev pub run_by : Result CommandValue WordFault → Option JobValue
+abbrev pub run_by : Result CommandValue WordFault → Option RunValue
 run_by (Ok command) = run_of command
 run_by (Err fault) = None
 
 -- the run over ranks that the words ask for, where they do
-abbrev pub run_named : List (List ℕ) → Option JobValue
+abbrev pub run_named : List (List ℕ) → Option RunValue
 run_named words = run_by (command_of words)

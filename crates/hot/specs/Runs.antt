@@ -1,6 +1,7 @@
 -- Runs over ranks, and what they leave on the wire.
 use Rattle.std.specs.Prelude.{ℕ, ◌≡◌, ◌≤◌, ◌↔◌, ◌==◌, Bool, true, List, [], ◌∷◌, ◌++◌, length, Contains, Option, Some, None}
 use Rattle.hot_units.specs.Values.{BodyValue, CellValue}
+use Rattle.hot_units.specs.declared.mail.Mail.{Mail}
 use Rattle.hot_units.specs.Order.{ordered}
 use Rattle.hot_model.specs.Trees.{Settings, opens_of}
 use Rattle.rank_model.specs.World.{World}
@@ -32,29 +33,36 @@ abbrev pub log_of : WireUse → List Entry
 log_of unused = []
 log_of (used d) = d.log
 
--- the numbers of the walk of a run
+-- a run over ranks: how many there are, the most bodies of a leaf, how letters are handed out, and which cells a body opens
+pub record RunValue : Type 0 where
+  pub ranks : ℕ
+  pub leaf : ℕ
+  pub mail : Mail
+  pub opens : BodyValue → CellValue → Bool
+
+-- the numbers of a walk by gravity
 abbrev pub settings_of : JobValue → Settings
 settings_of job = record { num = job.ratio.num; den = job.ratio.den; eps = job.eps; leaf = job.leaf; second = job.moments == 2 }
 
--- the cells that a body opens
-abbrev pub opens_in : JobValue → BodyValue → CellValue → Bool
-opens_in job = opens_of (settings_of job)
+-- a run by gravity: a body opens the cells that it does not accept
+abbrev pub gravity_run : JobValue → RunValue
+gravity_run job = record { ranks = job.ranks; leaf = job.leaf; mail = job.mail; opens = opens_of (settings_of job) }
 
 -- the world of a run: the bodies in key order, split by their weights over its ranks, with its leaf limit
-abbrev pub world_in : JobValue → SetValue → World
-world_in job set = split_world (weight_in set.weights) (ordered set.bodies) job.ranks job.leaf
+abbrev pub world_in : RunValue → SetValue → World
+world_in run set = split_world (weight_in set.weights) (ordered set.bodies) run.ranks run.leaf
 
 -- what a run leaves once it came to its end; where there is none, the wire is not used
-abbrev pub RunLeaves : Option JobValue → SetValue → WireUse → Type 0
+abbrev pub RunLeaves : Option RunValue → SetValue → WireUse → Type 0
 RunLeaves None set wire = wire ≡ unused
-RunLeaves (Some job) set unused = ⊥
-RunLeaves (Some job) set (used d) = HasRun (opens_in job) (world_in job set) job.mail d
+RunLeaves (Some run) set unused = ⊥
+RunLeaves (Some run) set (used d) = HasRun run.opens (world_in run set) run.mail d
 
 -- what a run leaves where memory was refused in it: its log is legal
-abbrev pub RunBegan : Option JobValue → SetValue → WireUse → Type 0
+abbrev pub RunBegan : Option RunValue → SetValue → WireUse → Type 0
 RunBegan None set wire = ⊥
-RunBegan (Some job) set unused = ⊥
-RunBegan (Some job) set (used d) = HasBegun (opens_in job) (world_in job set) job.mail d
+RunBegan (Some run) set unused = ⊥
+RunBegan (Some run) set (used d) = HasBegun run.opens (world_in run set) run.mail d
 
 -- the letters that were posted
 abbrev pub letters_of : List Entry → List LetterValue
@@ -70,11 +78,11 @@ keys_asked q log = asked_by q (letters_of log)
 -- the run came to its end with a complete log, by the mail of the words, and nothing is pending; each rank asked for
 -- exactly the cells that it needs, each once; letters and rounds are within their bounds, and the rounds within 44 where
 -- the wire gives all letters in each round
-pub record AsksExactly (job : JobValue) (set : SetValue) (d : Desk) : Type 0 where
-  pub ran : HasRun (opens_in job) (world_in job set) job.mail d
-  pub asked : (q c : ℕ) → Contains (keys_asked q d.log) c ↔ Needs (opens_in job) (world_in job set) q c
+pub record AsksExactly (run : RunValue) (set : SetValue) (d : Desk) : Type 0 where
+  pub ran : HasRun run.opens (world_in run set) run.mail d
+  pub asked : (q c : ℕ) → Contains (keys_asked q d.log) c ↔ Needs run.opens (world_in run set) q c
   pub once : (q c : ℕ) → times c (keys_asked q d.log) ≤ 1
-  pub letters : letters_in d.log ≤ letter_bound (opens_in job) (world_in job set)
-  pub bound : rounds_in d.log ≤ round_bound (opens_in job) (world_in job set)
-  pub few : d.eager job.mail ≡ true → rounds_in d.log ≤ prompt_rounds
-  pub mail : d.mail ≡ job.mail
+  pub letters : letters_in d.log ≤ letter_bound run.opens (world_in run set)
+  pub bound : rounds_in d.log ≤ round_bound run.opens (world_in run set)
+  pub few : d.eager run.mail ≡ true → rounds_in d.log ≤ prompt_rounds
+  pub mail : d.mail ≡ run.mail

@@ -6,10 +6,10 @@ ghost use Rattle.sdf_rows.specs.Columns.{Is64Bits};
 ghost use Rattle.body_file.specs.Files.{HasBodies};
 ghost use Rattle.body_maker.specs.Made.{made_set};
 ghost use Rattle.hot_words.specs.Commands.{job_value};
-ghost use Rattle.hot.specs.Runs.{WireUse, Wired, log_of};
+ghost use Rattle.hot.specs.Runs.{WireUse, Wired, log_of, gravity_run};
 ghost use Rattle.hot.specs.Texts.{sample_of};
-ghost use Rattle.hot.specs.Prepared.{IsWalkOf, WalkLeaves, walk_report, IsRunOf, AreForcesOf};
-ghost use Rattle.hot.specs.Prepared.{ComputeLeaves};
+ghost use Rattle.hot.specs.Prepared.{gravity_of, IsWalkOf, WalkLeaves, walk_report, IsRunOf};
+ghost use Rattle.hot.specs.Prepared.{AreForcesOf, ComputeLeaves};
 
 use crate::answer::Forces;
 use body_maker::sample_bodies;
@@ -71,8 +71,9 @@ fn walk_job<R: Threads + Sync, M: Wire, G: Gate>(
 ) -> Result<Found<Acc3>, AllocError>
     requires quiet { (M.desk wire.old).pending ≡ [] }
     ensures walked { (wu : WireUse) × Wired M.desk wire.old wire.new wu
-        × WalkLeaves (job_value job.now) ordered.now wu result
-        × IfOk result (λ f. IsWalkOf (job_value job.now) ordered.now (log_of wu)
+        × WalkLeaves (gravity_run (job_value job.now)) ordered.now wu result
+        × IfOk result (λ f. IsWalkOf (gravity_of (job_value job.now))
+        (gravity_run (job_value job.now)) ordered.now (log_of wu)
         f.accs.items f.efforts.items f.opened.items f.rounds) }
 {
     let visit = visit_of(job);
@@ -88,10 +89,11 @@ fn report_if<M: Wire>(
     wire: &M,
     shows: bool,
 ) -> Result<Option<RunReport>, AllocError>
-    requires walked { IsWalkOf (job_value job.now) ordered.now (M.desk wire.now).log
+    requires walked { IsWalkOf (gravity_of (job_value job.now)) (gravity_run (job_value job.now))
+        ordered.now (M.desk wire.now).log
         found.now.accs.items found.now.efforts.items found.now.opened.items found.now.rounds }
-    ensures report { IfOk result (λ r.
-        r ≡ walk_report shows (job_value job.now) ordered.now (M.desk wire.now).log) }
+    ensures report { IfOk result (λ r. r
+        ≡ walk_report shows (gravity_run (job_value job.now)) ordered.now (M.desk wire.now).log) }
 {
     if !shows {
         return Ok(None);
@@ -113,7 +115,7 @@ fn compute_run<R: Threads + Sync, M: Wire, G: Gate>(
     requires rows { RowsCount set.bodies }
     requires quiet { (M.desk wire.old).pending ≡ [] }
     ensures ran { (wu : WireUse) × Wired M.desk wire.old wire.new wu
-        × ComputeLeaves (Some (job_value job.now)) set wu result
+        × ComputeLeaves (Some (gravity_run (job_value job.now))) set wu result
         × IfOk result (λ r. IsRunOf (job_value job.now) set shows (log_of wu)
         r.ordered r.forces.items r.report) }
 {
@@ -142,7 +144,7 @@ pub fn compute_forces<R: Threads + Sync, M: Wire, G: Gate>(
     requires of_files { (files : List (List ℕ)) × HasBodies files set }
     requires quiet { (M.desk wire.old).pending ≡ [] }
     ensures computed { (wu : WireUse) × Wired M.desk wire.old wire.new wu
-        × ComputeLeaves (Some (job_value job.now)) set wu result
+        × ComputeLeaves (Some (gravity_run (job_value job.now))) set wu result
         × IfOk result (AreForcesOf (job_value job.now) set (log_of wu)) }
 {
     let ran = compute_run(rt, alloc, job, set, job.report, wire, gate)?;
@@ -167,7 +169,7 @@ pub fn compute_sample<R: Threads + Sync, M: Wire, G: Gate>(
     requires few { bodies ≤ max_generated }
     requires quiet { (M.desk wire.old).pending ≡ [] }
     ensures computed { (wu : WireUse) × Wired M.desk wire.old wire.new wu
-        × ComputeLeaves (Some (job_value job.now)) (made_set bodies seed) wu result
+        × ComputeLeaves (Some (gravity_run (job_value job.now))) (made_set bodies seed) wu result
         × IfOk result (λ s.
         s ≡ sample_of bodies seed (job_value job.now) (made_set bodies seed) (log_of wu)) }
 {
