@@ -7,8 +7,8 @@ ghost use Rattle.hot_words.specs.Settings.{ratio_given, moments_given};
 
 use crate::job::{Command, Job};
 use crate::settings::{
-    DEFAULT_MOMENTS, bodies, default_ratio, default_softening, files, has_report, is_sdf, leaf, mail,
-    moments, radius, ranks, ratio, seed, softening,
+    DEFAULT_MOMENTS, bodies, default_ratio, default_softening, files, has_report, is_sdf, leaf,
+    mail, moments, radius, ranks, ratio, seed, softening,
 };
 use crate::table::CommandName;
 use crate::word_list::WordList;
