@@ -426,10 +426,7 @@ const ACCEPTED: [(&str, &str); 48] = [
         "split --ranks 2 - b c d e f g h i j k l m n o p",
         "split 2 3 16",
     ),
-    (
-        "near",
-        "near 256 1 7/10 256 8 1 prompt false false 0 0",
-    ),
+    ("near", "near 256 1 7/10 256 8 1 prompt false false 0 0"),
     (
         "near --radius 0",
         "near 0 1 7/10 256 8 1 prompt false false 0 0",
