@@ -43,7 +43,7 @@ const UNKNOWN_COMMAND: [Refused; 3] = [
     ("Forces f", 0, "A2 unknown command Forces"),
 ];
 
-const UNKNOWN_OPTION: [Refused; 12] = [
+const UNKNOWN_OPTION: [Refused; 17] = [
     ("split --theta 1/1", 1, "A3 unknown option --theta"),
     ("split --report", 1, "A3 unknown option --report"),
     ("forces --seed 1", 1, "A3 unknown option --seed"),
@@ -60,15 +60,25 @@ const UNKNOWN_OPTION: [Refused; 12] = [
         "A3 unknown option --none",
     ),
     ("split --moments 2", 1, "A3 unknown option --moments"),
+    ("near --theta 1/1", 1, "A3 unknown option --theta"),
+    ("near --eps 1", 1, "A3 unknown option --eps"),
+    (
+        "near --radius 1 --moments 1",
+        3,
+        "A3 unknown option --moments",
+    ),
+    ("near --report", 1, "A3 unknown option --report"),
+    ("forces --radius 1", 1, "A3 unknown option --radius"),
 ];
 
-const NO_VALUE: [Refused; 3] = [
+const NO_VALUE: [Refused; 4] = [
     ("forces --theta", 1, "A4 no value for --theta"),
     ("forces --eps 1 --theta", 3, "A4 no value for --theta"),
     ("make --seed", 1, "A4 no value for --seed"),
+    ("near --radius", 1, "A4 no value for --radius"),
 ];
 
-const GIVEN_TWICE: [Refused; 4] = [
+const GIVEN_TWICE: [Refused; 5] = [
     (
         "forces --leaf 8 --leaf 8",
         3,
@@ -85,9 +95,14 @@ const GIVEN_TWICE: [Refused; 4] = [
         2,
         "A5 option given twice --report",
     ),
+    (
+        "near --radius 1 --radius 1",
+        3,
+        "A5 option given twice --radius",
+    ),
 ];
 
-const BAD_VALUE: [Refused; 26] = [
+const BAD_VALUE: [Refused; 28] = [
     ("forces --ranks 0 f", 2, "A6 bad value 0 for --ranks"),
     ("forces --ranks 65", 2, "A6 bad value 65 for --ranks"),
     ("forces --leaf 0", 2, "A6 bad value 0 for --leaf"),
@@ -146,11 +161,17 @@ const BAD_VALUE: [Refused; 26] = [
     ),
     ("forces --eps 0 --none", 2, "A6 bad value 0 for --eps"),
     ("forces --moments 3", 2, "A6 bad value 3 for --moments"),
+    (
+        "near --radius 1073741825",
+        2,
+        "A6 bad value 1073741825 for --radius",
+    ),
+    ("near --radius -1", 2, "A6 bad value -1 for --radius"),
 ];
 
 /// From the first file on all words are files: at most 16, none like an option, `-` at most once; and
 /// none for the commands that read no file.
-const EXTRA_WORD: [Refused; 17] = [
+const EXTRA_WORD: [Refused; 20] = [
     ("forces a --ranks 2", 2, "A7 extra word --ranks"),
     ("forces a --eps", 2, "A7 extra word --eps"),
     ("forces a b --none 1", 3, "A7 extra word --none"),
@@ -168,6 +189,13 @@ const EXTRA_WORD: [Refused; 17] = [
         19,
         "A7 extra word -",
     ),
+    (
+        "near a b c d e f g h i j k l m n o p q",
+        17,
+        "A7 extra word q",
+    ),
+    ("near - a -", 3, "A7 extra word -"),
+    ("near a --radius 1", 2, "A7 extra word --radius"),
     ("make x", 1, "A7 extra word x"),
     ("make - --seed 1", 1, "A7 extra word -"),
     ("make --seed 1 ", 3, "A7 extra word "),
@@ -260,11 +288,15 @@ fn command_line(alloc: Global, command: &Command) -> Result<String, AllocError> 
             let job = job_line(alloc, job)?;
             format!(in alloc; "sample {bodies} {seed} {job}")
         }
+        Command::Near { radius, job } => {
+            let job = job_line(alloc, job)?;
+            format!(in alloc; "near {radius} {job}")
+        }
     }
 }
 
 /// Words that are accepted, and their command in a line.
-const ACCEPTED: [(&str, &str); 42] = [
+const ACCEPTED: [(&str, &str); 48] = [
     ("forces", "forces 1 7/10 256 8 1 prompt false false 0 0"),
     ("forces f", "forces 1 7/10 256 8 1 prompt false false 1 1"),
     ("forces -", "forces 1 7/10 256 8 1 prompt false false 1 1"),
@@ -393,6 +425,27 @@ const ACCEPTED: [(&str, &str); 42] = [
     (
         "split --ranks 2 - b c d e f g h i j k l m n o p",
         "split 2 3 16",
+    ),
+    ("near", "near 256 1 7/10 256 8 1 prompt false false 0 0"),
+    (
+        "near --radius 0",
+        "near 0 1 7/10 256 8 1 prompt false false 0 0",
+    ),
+    (
+        "near --radius 1073741824",
+        "near 1073741824 1 7/10 256 8 1 prompt false false 0 0",
+    ),
+    (
+        "near --mail last --radius 0768 --leaf 1 --ranks 3 f",
+        "near 768 3 7/10 256 1 1 last false false 9 1",
+    ),
+    (
+        "near a - b",
+        "near 256 1 7/10 256 8 1 prompt false false 1 3",
+    ),
+    (
+        "near --radius 7 a b c d e f g h i j k l m n o -",
+        "near 7 1 7/10 256 8 1 prompt false false 3 16",
     ),
 ];
 

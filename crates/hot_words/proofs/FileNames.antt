@@ -1,5 +1,5 @@
 -- The names of the files of words without a fault.
-use Rattle.std.proofs.Common.{◌≡◌, ℕ, zero, suc, ◌+◌, ◌-◌, ◌<◌, ◌≤◌, ◌⊎◌, Bool, true, false, not, cond, ◌&&◌, ◌||◌, nat_le, List, [], ◌∷◌, ◌++◌, length, get_or, take, drop, All, Option, Some, None, refl, sym, ap, subst, ◌∙◌, arith, inl, inr, if◌then◌else◌, length-drop, add-one}
+use Rattle.std.proofs.Common.{◌≡◌, ℕ, zero, suc, ◌+◌, ◌-◌, ◌<◌, ◌≤◌, Bool, true, false, not, ◌&&◌, ◌||◌, nat_le, List, [], ◌∷◌, ◌++◌, length, get_or, take, drop, All, Option, Some, None, refl, sym, ap, ◌∙◌, arith, inl, inr, if◌then◌else◌, length-drop}
 use Rattle.std.specs.Option.{option_map}
 use Rattle.std.specs.List.{find, cons_option, filter_map, list_any, count_by, range_with_len, slice_get}
 use Rattle.std.proofs.lemmas.Bool.{cases_Bool, leb-true, leb-false}
@@ -15,7 +15,7 @@ use Rattle.hot_words.specs.declared.faults.WordFault.{WordFault}
 use Rattle.hot_words.specs.Options.{has_file}
 use Rattle.hot_words.specs.Places.{word_of, begins_option, begins_files, files_place}
 use Rattle.hot_words.specs.Names.{names_at, is_input, is_extra, AreNames}
-use Rattle.hot_words.specs.Faults.{file_fault, code_of, fault_of, faults_from, fault_listed, ratio_fault, first_of, fault_first}
+use Rattle.hot_words.specs.Faults.{code_of, fault_of, fault_listed, ratio_fault, first_of, fault_first}
 use Rattle.hot_words.specs.Settings.{files_behind, files_given}
 use Rattle.hot_words.proofs.PlaceSteps.{found-from, code-file}
 

@@ -1,5 +1,5 @@
 -- One more place of the words.
-use Rattle.std.proofs.Common.{◌≡◌, ℕ, zero, suc, ◌+◌, ◌-◌, ◌<◌, ◌≤◌, Bool, true, false, not, cond, ◌&&◌, List, length, Option, Some, None, IfSome, refl, sym, ap, subst, ◌∙◌, arith, inl, inr, nat_lt, if◌then◌else◌}
+use Rattle.std.proofs.Common.{◌≡◌, ℕ, zero, suc, ◌+◌, ◌-◌, ◌<◌, ◌≤◌, Bool, true, false, not, cond, ◌&&◌, List, length, Option, Some, None, refl, sym, ap, ◌∙◌, arith, inl, inr}
 use Rattle.std.proofs.lemmas.Bool.{cases_Bool, lt-ltb, le-ltb}
 use Rattle.std.specs.Option.{option_map}
 use Rattle.std.specs.List.{find, cons_option, filter_map, range_with_len, slice_get}
@@ -8,7 +8,7 @@ use Rattle.hot_words.specs.declared.table.CommandName.{CommandName}
 use Rattle.hot_words.specs.declared.faults.WordCode.{WordCode}
 use Rattle.hot_words.specs.declared.faults.WordFault.{WordFault}
 use Rattle.hot_words.specs.Places.{word_of, stands_as_value, holds_option, begins_option, begins_files, files_place}
-use Rattle.hot_words.specs.Faults.{setting_fault, file_fault, code_by, code_of, fault_of, faults_from, fault_listed}
+use Rattle.hot_words.specs.Faults.{setting_fault, file_fault, code_by, code_of, fault_of, faults_from}
 
 -- ---- what is found from a place on
 

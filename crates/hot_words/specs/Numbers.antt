@@ -8,6 +8,7 @@ use Rattle.hot_units.specs.Limits.{max_ranks, max_leaf, max_generated, max_ratio
 use Rattle.hot_units.specs.declared.mail.Mail.{Mail}
 use Rattle.hot_units.specs.declared.mail.Mail.TheVariants.{Prompt, Last, Single, Seeded}
 use Rattle.fixed_kernel.specs.Ratio.{RatioValue}
+use Rattle.near_walk.specs.Limits.{max_radius}
 
 -- the most digits of a number
 abbrev pub max_digits : ℕ
@@ -45,6 +46,10 @@ bodies_of word = within 0 max_generated (number_of word)
 -- a softening
 abbrev pub softening_of : List ℕ → Option ℕ
 softening_of word = within 1 max_softening (number_of word)
+
+-- a radius
+abbrev pub radius_of : List ℕ → Option ℕ
+radius_of word = within 0 max_radius (number_of word)
 
 -- a ratio of two numbers
 abbrev pub ratio_by : Option ℕ → Option ℕ → Option RatioValue

@@ -3,8 +3,8 @@ use Rattle.std.specs.Prelude.{ℕ, Bool, true, false, not, ◌&&◌, List, [], �
 use Rattle.std.specs.List.{list_any}
 use Rattle.std.specs.Str.{bytes_eq}
 use Rattle.hot_words.specs.declared.table.CommandName.{CommandName}
-use Rattle.hot_words.specs.declared.table.CommandName.TheVariants.{Forces, Split, Make, Sample}
-use Rattle.hot_words.specs.Numbers.{number_of, ranks_of, leaf_of, moments_of, bodies_of, softening_of, ratio_of, mail_of, form_of}
+use Rattle.hot_words.specs.declared.table.CommandName.TheVariants.{Forces, Split, Make, Sample, Near}
+use Rattle.hot_words.specs.Numbers.{number_of, ranks_of, leaf_of, moments_of, bodies_of, softening_of, radius_of, ratio_of, mail_of, form_of}
 
 -- the command of a word
 abbrev pub command_named : List ℕ → Option CommandName
@@ -12,7 +12,8 @@ command_named word =
     if bytes_eq word (codes "forces") then Some Forces
     else (if bytes_eq word (codes "split") then Some Split
     else (if bytes_eq word (codes "make") then Some Make
-    else (if bytes_eq word (codes "sample") then Some Sample else None)))
+    else (if bytes_eq word (codes "sample") then Some Sample
+    else (if bytes_eq word (codes "near") then Some Near else None))))
 
 -- the options of generated bodies
 abbrev pub body_options : List (List ℕ)
@@ -22,12 +23,17 @@ body_options = codes "--bodies" ∷ codes "--seed" ∷ []
 abbrev pub run_options : List (List ℕ)
 run_options = codes "--ranks" ∷ codes "--theta" ∷ codes "--eps" ∷ codes "--leaf" ∷ codes "--moments" ∷ codes "--mail" ∷ []
 
+-- the options of a run by a radius
+abbrev pub near_options : List (List ℕ)
+near_options = codes "--ranks" ∷ codes "--leaf" ∷ codes "--mail" ∷ codes "--radius" ∷ []
+
 -- the options of each command
 abbrev pub options_of : CommandName → List (List ℕ)
 options_of Forces = run_options ++ codes "--form" ∷ codes "--report" ∷ []
 options_of Split = codes "--ranks" ∷ []
 options_of Make = body_options
 options_of Sample = body_options ++ run_options
+options_of Near = near_options
 
 -- whether a word is an option of a command
 abbrev pub has_option : CommandName → List ℕ → Bool
@@ -43,6 +49,7 @@ has_file Forces = true
 has_file Split = true
 has_file Make = false
 has_file Sample = false
+has_file Near = true
 
 -- whether a word is a good value of an option
 abbrev pub is_good : List ℕ → List ℕ → Bool
@@ -55,4 +62,5 @@ is_good option value =
     else (if bytes_eq option (codes "--mail") then is_some (mail_of value)
     else (if bytes_eq option (codes "--form") then is_some (form_of value)
     else (if bytes_eq option (codes "--bodies") then is_some (bodies_of value)
-    else (if bytes_eq option (codes "--seed") then is_some (number_of value) else false))))))))
+    else (if bytes_eq option (codes "--seed") then is_some (number_of value)
+    else (if bytes_eq option (codes "--radius") then is_some (radius_of value) else false)))))))))

@@ -1,13 +1,13 @@
 -- The command that words give, or their refusal.
 use Rattle.std.specs.Prelude.{ℕ, Bool, false, List, [], ◌∷◌, Option, Some, None, Result, Ok, Err}
 use Rattle.hot_words.specs.declared.table.CommandName.{CommandName}
-use Rattle.hot_words.specs.declared.table.CommandName.TheVariants.{Forces, Split, Make, Sample}
+use Rattle.hot_words.specs.declared.table.CommandName.TheVariants.{Forces, Split, Make, Sample, Near}
 use Rattle.hot_words.specs.declared.faults.WordFault.{WordFault}
 use Rattle.hot_words.specs.declared.faults.WordCode.TheVariants.{A1, A2}
 use Rattle.hot_words.specs.Options.{command_named}
 use Rattle.hot_words.specs.Faults.{fault_first}
-use Rattle.hot_words.specs.Settings.{ranks_given, ratio_given, softening_given, leaf_given, moments_given, mail_given, sdf_given, report_given, bodies_given, seed_given, files_given}
-use Rattle.hot_words.specs.Commands.{JobValue, CommandValue, forces, split, make, sample}
+use Rattle.hot_words.specs.Settings.{ranks_given, ratio_given, softening_given, leaf_given, moments_given, mail_given, sdf_given, report_given, bodies_given, seed_given, radius_given, files_given, default_ratio, default_softening, default_moments}
+use Rattle.hot_words.specs.Commands.{JobValue, CommandValue, forces, split, make, sample, near}
 
 -- a run by its options, with the form of its output, a report, and the place and number of its files
 abbrev pub job_of : CommandName → List (List ℕ) → Bool → Bool → ℕ → ℕ → JobValue
@@ -24,6 +24,21 @@ job_of name words sdf report first files = record {
   files = files;
 }
 
+-- a run by a radius: its ratio, softening and moments have their defaults, it is no SDF and has no report
+abbrev pub near_job_of : List (List ℕ) → ℕ → ℕ → JobValue
+near_job_of words first files = record {
+  ranks = ranks_given Near words;
+  ratio = default_ratio;
+  eps = default_softening;
+  leaf = leaf_given Near words;
+  moments = default_moments;
+  mail = mail_given Near words;
+  sdf = false;
+  report = false;
+  first = first;
+  files = files;
+}
+
 -- the command that words without a fault give
 abbrev pub command_by : CommandName → List (List ℕ) → CommandValue
 command_by Forces words =
@@ -32,6 +47,9 @@ command_by Forces words =
 command_by Split words = let files = files_given Split words in split (ranks_given Split words) files.0 files.1
 command_by Make words = make (bodies_given Make words) (seed_given Make words)
 command_by Sample words = sample (bodies_given Sample words) (seed_given Sample words) (job_of Sample words false false 0 0)
+command_by Near words =
+    let files = files_given Near words in
+    near (radius_given Near words) (near_job_of words files.0 files.1)
 
 -- the first fault, or else the command
 abbrev pub unless_fault : Option WordFault → CommandValue → Result CommandValue WordFault

@@ -1,13 +1,14 @@
 // The command that words without a fault give.
 ghost use Rattle.std.specs.Prelude.{◌≡◌, ◌≤◌, None};
 ghost use Rattle.hot_words.specs.Commands.{job_value, command_value, IsWithinLimits, IsNamed};
-ghost use Rattle.hot_words.specs.Words.{job_of, command_by};
+ghost use Rattle.hot_words.specs.Words.{job_of, near_job_of, command_by};
 ghost use Rattle.hot_words.specs.Faults.{fault_first};
 ghost use Rattle.hot_words.specs.Settings.{ratio_given, moments_given};
 
 use crate::job::{Command, Job};
 use crate::settings::{
-    bodies, files, has_report, is_sdf, leaf, mail, moments, ranks, ratio, seed, softening,
+    DEFAULT_MOMENTS, bodies, default_ratio, default_softening, files, has_report, is_sdf, leaf,
+    mail, moments, radius, ranks, ratio, seed, softening,
 };
 use crate::table::CommandName;
 use crate::word_list::WordList;
@@ -35,6 +36,26 @@ fn make_job(
         mail: mail(name, words),
         sdf,
         report,
+        first,
+        files,
+    }
+}
+
+/// A run by a radius, with the place and number of its files. Its ratio, softening and order of the
+/// moments are the defaults, it is no SDF and has no report.
+fn make_near_job(words: &WordList, first: usize, files: usize) -> Job
+    ensures { job_value result ≡ near_job_of words.now first files }
+{
+    let name = CommandName::Near;
+    Job {
+        ranks: ranks(name, words),
+        ratio: default_ratio(),
+        eps: default_softening(),
+        leaf: leaf(name, words),
+        moments: DEFAULT_MOMENTS,
+        mail: mail(name, words),
+        sdf: false,
+        report: false,
         first,
         files,
     }
@@ -70,5 +91,12 @@ pub fn make_command(name: CommandName, words: &WordList) -> Command
             seed: seed(name, words),
             job: make_job(name, words, false, false, 0, 0),
         },
+        CommandName::Near => {
+            let (first, files) = files(name, words);
+            Command::Near {
+                radius: radius(name, words),
+                job: make_near_job(words, first, files),
+            }
+        }
     }
 }

@@ -3,12 +3,13 @@ ghost use Rattle.std.specs.Prelude.{◌≡◌, ◌≤◌, ◌↔◌, [], length,
 ghost use Rattle.std.specs.Prelude.{MatchOption};
 ghost use Rattle.std.specs.List.{before_first, after_first};
 ghost use Rattle.hot_words.specs.Numbers.{number_of, within, ranks_of, leaf_of, moments_of};
-ghost use Rattle.hot_words.specs.Numbers.{bodies_of, softening_of, ratio_of, mail_of, form_of};
-ghost use Rattle.hot_words.specs.Numbers.{is_slash};
+ghost use Rattle.hot_words.specs.Numbers.{bodies_of, softening_of, radius_of, ratio_of, mail_of};
+ghost use Rattle.hot_words.specs.Numbers.{form_of, is_slash};
 
 use fixed_kernel::{Eps, Ratio};
 use hot_units::Mail;
 use hot_units::limits::{MAX_GENERATED, MAX_LEAF, MAX_RANKS, MAX_RATIO, MAX_SOFTENING};
+use near_walk::limits::MAX_RADIUS;
 
 /// The most digits that a number may have.
 const MAX_DIGITS: usize = 20;
@@ -87,6 +88,13 @@ pub fn read_eps(word: &str) -> Option<Eps>
         Some(eps) => Eps::new(eps),
         None => None,
     }
+}
+
+/// A radius, 0 to 1,073,741,824; None exactly where the word is no such number.
+pub fn read_radius(word: &str) -> Option<u32>
+    ensures value { result ≡ radius_of word.now }
+{
+    read_within(word, 0, MAX_RADIUS)
 }
 
 /// The texts on both sides of the first slash.

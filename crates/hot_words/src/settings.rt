@@ -2,13 +2,15 @@
 // default in a command.
 ghost use Rattle.std.specs.Prelude.{◌≡◌, ◌≤◌};
 ghost use Rattle.hot_units.specs.Limits.{max_ranks, max_leaf, max_generated};
+ghost use Rattle.near_walk.specs.Limits.{max_radius};
 ghost use Rattle.hot_words.specs.Settings.{ranks_given, ratio_given, softening_given, leaf_given};
 ghost use Rattle.hot_words.specs.Settings.{moments_given, mail_given, sdf_given, report_given};
-ghost use Rattle.hot_words.specs.Settings.{bodies_given, seed_given, files_given};
+ghost use Rattle.hot_words.specs.Settings.{bodies_given, seed_given, radius_given, files_given};
+ghost use Rattle.hot_words.specs.Settings.{default_ratio, default_softening, default_moments};
 
 use crate::numbers::{
-    read_bodies, read_eps, read_form, read_leaf, read_mail, read_moments, read_number, read_ranks,
-    read_ratio,
+    read_bodies, read_eps, read_form, read_leaf, read_mail, read_moments, read_number, read_radius,
+    read_ranks, read_ratio,
 };
 use crate::places::{find_file, find_option, find_value};
 use crate::table::CommandName;
@@ -27,29 +29,43 @@ pub fn ranks(name: CommandName, words: &WordList) -> u32
     }
 }
 
+/// The opening ratio of a command that is given none: 7/10.
+pub fn default_ratio() -> Ratio
+    ensures value { result ≡ default_ratio }
+{
+    let Some(ratio) = Ratio::new(7, 10) else {
+        unreachable!()
+    };
+    ratio
+}
+
 /// The opening ratio: 7/10 by default.
 pub fn ratio(name: CommandName, words: &WordList) -> Ratio
     ensures value { result ≡ ratio_given name words.now }
 {
-    let Some(default) = Ratio::new(7, 10) else {
+    match find_value(name, words, "--theta") {
+        Some(value) => read_ratio(value).unwrap_or(default_ratio()),
+        None => default_ratio(),
+    }
+}
+
+/// The softening of a command that is given none, in fine units: 256.
+pub fn default_softening() -> Eps
+    ensures value { result ≡ default_softening }
+{
+    let Some(eps) = Eps::new(256) else {
         unreachable!()
     };
-    match find_value(name, words, "--theta") {
-        Some(value) => read_ratio(value).unwrap_or(default),
-        None => default,
-    }
+    eps
 }
 
 /// The softening: 256 by default.
 pub fn softening(name: CommandName, words: &WordList) -> Eps
     ensures value { result ≡ softening_given name words.now }
 {
-    let Some(default) = Eps::new(256) else {
-        unreachable!()
-    };
     match find_value(name, words, "--eps") {
-        Some(value) => read_eps(value).unwrap_or(default),
-        None => default,
+        Some(value) => read_eps(value).unwrap_or(default_softening()),
+        None => default_softening(),
     }
 }
 
@@ -64,14 +80,17 @@ pub fn leaf(name: CommandName, words: &WordList) -> u32
     }
 }
 
+/// The order of the moments of a command that is given none.
+pub const DEFAULT_MOMENTS: u32 = 1;
+
 /// The order of the moments: 1 by default.
 pub fn moments(name: CommandName, words: &WordList) -> u32
     ensures value { result ≡ moments_given name words.now }
     ensures limits { (1 ≤ result) × (result ≤ 2) }
 {
     match find_value(name, words, "--moments") {
-        Some(value) => read_moments(value).unwrap_or(1),
-        None => 1,
+        Some(value) => read_moments(value).unwrap_or(DEFAULT_MOMENTS),
+        None => DEFAULT_MOMENTS,
     }
 }
 
@@ -120,6 +139,17 @@ pub fn seed(name: CommandName, words: &WordList) -> u64
     match find_value(name, words, "--seed") {
         Some(value) => read_number(value).unwrap_or(0),
         None => 0,
+    }
+}
+
+/// The radius: 256 by default.
+pub fn radius(name: CommandName, words: &WordList) -> u32
+    ensures value { result ≡ radius_given name words.now }
+    ensures limit { result ≤ max_radius }
+{
+    match find_value(name, words, "--radius") {
+        Some(value) => read_radius(value).unwrap_or(256),
+        None => 256,
     }
 }
 

@@ -2,12 +2,12 @@
 ghost use Rattle.std.specs.Prelude.{◌≡◌};
 ghost use Rattle.std.specs.List.{list_any};
 ghost use Rattle.std.specs.Str.{bytes_eq};
-ghost use Rattle.hot_words.specs.Options.{command_named, run_options, body_options, has_option};
-ghost use Rattle.hot_words.specs.Options.{takes_value, has_file, is_good};
+ghost use Rattle.hot_words.specs.Options.{command_named, run_options, body_options, near_options};
+ghost use Rattle.hot_words.specs.Options.{has_option, takes_value, has_file, is_good};
 
 use crate::numbers::{
-    read_bodies, read_eps, read_form, read_leaf, read_mail, read_moments, read_number, read_ranks,
-    read_ratio,
+    read_bodies, read_eps, read_form, read_leaf, read_mail, read_moments, read_number, read_radius,
+    read_ranks, read_ratio,
 };
 
 /// A command by its name.
@@ -17,6 +17,7 @@ pub enum CommandName {
     Split,
     Make,
     Sample,
+    Near,
 }
 
 /// The command of a word; None exactly where it names none.
@@ -28,6 +29,7 @@ pub fn name_of(word: &str) -> Option<CommandName>
         "split" => Some(CommandName::Split),
         "make" => Some(CommandName::Make),
         "sample" => Some(CommandName::Sample),
+        "near" => Some(CommandName::Near),
         _ => None,
     }
 }
@@ -41,6 +43,7 @@ pub fn is_option(name: CommandName, word: &str) -> bool
         CommandName::Split => word == "--ranks",
         CommandName::Make => is_body_option(word),
         CommandName::Sample => is_body_option(word) || is_run_option(word),
+        CommandName::Near => is_near_option(word),
     }
 }
 
@@ -63,6 +66,13 @@ fn is_body_option(word: &str) -> bool
     word == "--bodies" || word == "--seed"
 }
 
+/// Whether the word is an option of a run by a radius.
+fn is_near_option(word: &str) -> bool
+    ensures { result ≡ list_any (bytes_eq word.now) near_options }
+{
+    word == "--ranks" || word == "--leaf" || word == "--mail" || word == "--radius"
+}
+
 /// Whether the word is an option of the command that takes a value: all do but `--report`.
 pub fn wants_value(name: CommandName, word: &str) -> bool
     ensures { result ≡ takes_value name word.now }
@@ -75,7 +85,7 @@ pub fn wants_file(name: CommandName) -> bool
     ensures { result ≡ has_file name }
 {
     match name {
-        CommandName::Forces | CommandName::Split => true,
+        CommandName::Forces | CommandName::Split | CommandName::Near => true,
         CommandName::Make | CommandName::Sample => false,
     }
 }
@@ -94,6 +104,7 @@ pub fn is_value(option: &str, value: &str) -> bool
         "--form" => read_form(value).is_some(),
         "--bodies" => read_bodies(value).is_some(),
         "--seed" => read_number(value).is_some(),
+        "--radius" => read_radius(value).is_some(),
         _ => false,
     }
 }
