@@ -6,8 +6,8 @@ ghost use Rattle.near_out.specs.NearText as text;
 
 use hot_io::{BLOCK, Block, Failed, Sink};
 
-/// The most bytes of what is added to a block at once: two numbers, and six bytes more.
-const PART: usize = 86;
+/// The most bytes of what is added to a block at once: two numbers, and a space between them.
+const PART: usize = 81;
 
 /// Puts the rows of one list, each behind a space.
 fn put_rows<O: Sink>(block: &mut Block, out: &mut O, rows: &[u32]) -> Result<(), Failed>
