@@ -4,6 +4,8 @@
 #[cfg(test)]
 mod bodies;
 #[cfg(test)]
+mod energies;
+#[cfg(test)]
 mod files;
 #[cfg(test)]
 mod forces;
@@ -15,6 +17,8 @@ mod layouts;
 mod lists;
 #[cfg(test)]
 mod made;
+#[cfg(test)]
+mod neighbours;
 #[cfg(test)]
 mod plain;
 #[cfg(test)]
