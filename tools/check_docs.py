@@ -1,3 +1,4 @@
+#!/usr/bin/env python3
 """Checks the documents: README.md, CONTRIBUTING.md, docs/, the README of each crate and that of python/.
 
 usage: tools/check_docs.py [--program PATH]

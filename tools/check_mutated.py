@@ -1,3 +1,4 @@
+#!/usr/bin/env python3
 """Runs mutated inputs and lists of words through the built program, by a driver in C (tools/mutate.c).
 
 Usage: tools/check_mutated.py [--program PATH | --try] [--inputs N] [--seed S] [--jobs N]

@@ -1,3 +1,4 @@
+#!/usr/bin/env python3
 """Runs the program on real files and streams that fail, end early, or do not end.
 
 Usage: tools/check_streams.py [--program PATH | --try]

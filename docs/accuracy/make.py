@@ -3,17 +3,21 @@
 
 usage: docs/accuracy/make.py [--program PATH --note TEXT] [--count N] [--most N] [PART..]
 
-PART is a part of the page: ratio, leaf, scale, time, ranks, field; without one all are made. The program is the one that
-`./hot` built; where another one is given, the note says on the page which. N bodies of each system are taken for the
-errors (5000), and up to `--most` for the times (100000). It wants NumPy and matplotlib, and takes some minutes.
+PART is a part of the page: ratio (with the table of second moments), leaf, scale, time, ranks, field; without one all
+are made. The program is the one that `./hot` built; where another one is given, the note says on the page which. N
+bodies of each system are taken for the errors (5000), and up to `--most` for the times (100000). Work is told in
+instructions, which valgrind counts, and which other programs on the machine do not change; `time` alone takes seconds.
+It wants NumPy, matplotlib and valgrind, and takes about half an hour of one processor.
 """
 
 import argparse
 import os
 import re
 import resource
+import shutil
 import subprocess
 import sys
+from concurrent.futures import ThreadPoolExecutor
 from pathlib import Path
 
 HERE = Path(__file__).resolve().parent
@@ -26,6 +30,7 @@ import numpy as np
 import hotbodies
 from hotbodies.bodies import body_bytes
 from hotbodies.direct import Errors, direct_accelerations, relative_errors
+from hotbodies.forces import read_forces
 from hotbodies.limits import FINE_BITS, KEY_LEVELS
 from hotbodies.run import file_forces, run_program
 from hotbodies.samples import SAMPLES
@@ -41,7 +46,7 @@ SHOWN = ("1/10", "3/10", "5/10", "7/10", "9/10", "6/5")
 LEAVES = (1, 4, 8, 16, 32, 64)
 SIDES = range(29, 12, -1)  # of a box, as powers of two of units
 SHOWN_SIDES = range(29, 12, -2)
-MASSES = (4_194_304, 1_024)
+MASSES = (2**28, 1_024)  # 2^28: the greatest power of two of which 2,500 are within the bound on all mass
 COUNTS = (1_000, 2_000, 5_000, 10_000, 20_000, 50_000, 100_000, 200_000)
 EPS = 0.01
 RANKS = 8  # over which bodies are split and cells asked for
@@ -79,28 +84,27 @@ class Pages:
 
     def ratio(self):
         figure, axes = plt.subplots(2, len(SAMPLES), figsize=(10, 6.4), sharey=True)
-        rows = []
+        rows, quotients = [], []
         for (upper, lower), (name, make) in zip(axes.T, SAMPLES.items()):
             data, scale = body_bytes(*make(self.count, 1), eps=EPS)
-            truth, longest = timed(lambda: self.forces(data, scale, theta=0))
-            lower.axvline(longest, color="0.5", linestyle="--", label="all pairs")
-            found = {
-                (ratio, moments): self.errors_and_seconds(data, scale, truth, theta=ratio, moments=moments)
-                for moments in (1, 2)
-                for ratio in ratios_for(moments)
-            }
+            asked = [("0/1", 1), *((ratio, moments) for moments in (1, 2) for ratio in ratios_for(moments))]
+            runs = self.counted(data, scale, [{"theta": ratio, "moments": moments} for ratio, moments in asked])
+            (truth, most), *runs = runs
+            found = {key: (Errors.of(relative_errors(it, truth)), count) for key, (it, count) in zip(asked[1:], runs)}
+            lower.axvline(most, color="0.5", linestyle="--", label="all pairs")
             for moments in (1, 2):
                 known = [(value_of(ratio), *found[ratio, moments]) for ratio in ratios_for(moments)]
-                ratios, errors, seconds = zip(*known)
-                for axis, places in ((upper, ratios), (lower, seconds)):
+                ratios, errors, counts = zip(*known)
+                for axis, places in ((upper, ratios), (lower, counts)):
                     ways = {"color": f"C{moments - 1}", "ms": 3}
                     axis.semilogy(places, [it.most for it in errors], "o-", label=f"99 %, moments {moments}", **ways)
                     axis.semilogy(places, [it.median for it in errors], "s:", label=f"median, moments {moments}", **ways)
             upper.set(title=name, xlabel="opening ratio")
-            lower.set(xlabel="processor seconds", xscale="log")
-            rows.append([name, "0", self.asks(data, scale, "0/1"), "0", "0", "0", f"{longest:.3f}", *[""] * 4])
+            lower.set(xlabel="million instructions", xscale="log")
+            rows.append([name, "0", self.asks(data, scale, "0/1"), "0", "0", "0", f"{most:,.0f}", *[""] * 4])
             for ratio in SHOWN:
                 rows.append([name, f"{value_of(ratio):g}", self.asks(data, scale, ratio), *cells_of(found, ratio)])
+            quotients += quotients_of(name, found)
         for axis in axes.flat:
             axis.grid(alpha=0.3)
         for axis in axes[:, 0]:
@@ -108,9 +112,25 @@ class Pages:
         axes[0, 0].legend()
         axes[1, 0].legend(handles=axes[1, 0].lines[:1])
         save(figure, "ratio.svg")
-        heads = ["median", "99 %", "largest", "seconds"]
+        heads = ["median", "99 %", "largest", "work"]
         lines = table(["bodies", "ratio", "asks", *heads, *(f"{head}, moments 2" for head in heads)], rows)
-        return [*lines, "", how_timed()]
+        heads = ["bodies", "ratio, moments 2", "work over that of moments 1, same ratio", "99 %, moments 2"]
+        heads += ["ratio, moments 1, of that error", "work over that of moments 1, same error"]
+        return {"ratio": [*lines, "", how_counted()], "moments": [*table(heads, quotients), "", how_counted()]}
+
+    def counted(self, data, scale, calls):
+        """The accelerations of calls with these options, each with the million instructions that it took."""
+
+        def run(options):
+            words = ["forces", "--eps", scale.softening(EPS), *(it for key in options for it in (f"--{key}", options[key]))]
+            command = ["valgrind", "--tool=callgrind", "--callgrind-out-file=/dev/null", self.program, *map(str, words)]
+            got = subprocess.run(command, input=data, capture_output=True, check=True)
+            count = int(re.search(rb"Collected\s*:\s*(\d+)", got.stderr)[1])
+            print(f"  {' '.join(map(str, words))}: {count / 1e6:,.0f}", flush=True)
+            return read_forces(got.stdout, scale).accelerations(), count / 1e6
+
+        with ThreadPoolExecutor(os.cpu_count()) as pool:
+            return list(pool.map(run, calls))
 
     def asks(self, data, scale, ratio):
         """How many cells the ranks ask of each other at a ratio."""
@@ -118,20 +138,15 @@ class Pages:
         report = subprocess.run([self.program, *words], input=data, capture_output=True, check=True).stderr.decode()
         return f"{sum(int(asks) for asks in re.findall(r'^rank .* asks (.*)$', report, re.M)):,}"
 
-    def errors_and_seconds(self, data, scale, truth, **options):
-        """The errors of a call, and the seconds that it took."""
-        found, seconds = timed(lambda: self.forces(data, scale, **options))
-        return Errors.of(relative_errors(found, truth)), seconds
-
     def leaf(self):
         rows = []
         for name, make in SAMPLES.items():
             data, scale = body_bytes(*make(self.count, 1), eps=EPS)
             truth = self.forces(data, scale, theta=0)
-            for leaf in LEAVES:
-                errors, seconds = self.errors_and_seconds(data, scale, truth, leaf=leaf)
-                rows.append([name, leaf, *map(share, numbers(errors)), f"{seconds:.3f}"])
-        return [*table(["bodies", "leaf", "median", "99 %", "largest", "seconds"], rows), "", how_timed()]
+            runs = self.counted(data, scale, [{"theta": "7/10", "leaf": leaf} for leaf in LEAVES])
+            for leaf, (found, count) in zip(LEAVES, runs):
+                rows.append([name, leaf, *map(share, numbers(Errors.of(relative_errors(found, truth)))), f"{count:,.0f}"])
+        return [*table(["bodies", "leaf", "median", "99 %", "largest", "work"], rows), "", how_counted()]
 
     def scale(self):
         positions, _ = SAMPLES["uniform box"](self.count // 2, 1)
@@ -241,15 +256,39 @@ def numbers(errors):
 
 
 def cells_of(found, ratio):
-    """The cells of a row: errors and seconds with one moment and with two; empty where there are none."""
+    """The cells of a row: errors and work with one moment and with two; empty where there are none."""
     cells = []
     for moments in (1, 2):
         if (ratio, moments) in found:
-            errors, seconds = found[ratio, moments]
-            cells += [*map(share, numbers(errors)), f"{seconds:.3f}"]
+            errors, count = found[ratio, moments]
+            cells += [*map(share, numbers(errors)), f"{count:,.0f}"]
         else:
             cells += [""] * 4
     return cells
+
+
+def quotients_of(name, found):
+    """The rows that compare the work of second moments with that of the first, at one ratio and at one error.
+
+    Between two ratios the logarithms of ratio and work are taken to grow evenly with that of the error; beyond them
+    nothing is told.
+    """
+    firsts = [(value_of(ratio), *found[ratio, 1]) for ratio in ratios_for(1)]
+    logs = np.log([[errors.most, ratio, count] for ratio, errors, count in firsts])
+    logs = logs[np.argsort(logs[:, 0])]
+    rows = []
+    for ratio in SHOWN:
+        if (ratio, 2) not in found:
+            continue
+        errors, count = found[ratio, 2]
+        row = [name, f"{value_of(ratio):g}", f"{count / found[ratio, 1][1]:.2f}", share(errors.most)]
+        if logs[0, 0] <= np.log(errors.most) <= logs[-1, 0]:
+            same, work = (np.exp(np.interp(np.log(errors.most), logs[:, 0], logs[:, k])) for k in (1, 2))
+            row += [f"{same:.2f}", f"{count / work:.2f}"]
+        else:
+            row += ["", ""]
+        rows.append(row)
+    return rows
 
 
 def timed(call):
@@ -261,6 +300,11 @@ def timed(call):
         found = call()
         taken.append(used() - begin)
     return found, min(taken)
+
+
+def how_counted():
+    """A line on what work is."""
+    return "Work is in millions of instructions of the program on one rank, from the body file to the output."
 
 
 def how_timed():
@@ -319,12 +363,16 @@ def main():
     options = parser.parse_args()
     if options.program != str(BUILT) and options.note == parser.get_default("note"):
         parser.error("--program wants a --note, which says on the page which program it is")
+    if not shutil.which("valgrind"):
+        parser.error("valgrind is missing")
     pages = Pages(options.program, options.count, options.most)
     for part in options.parts or parts:
         print(part, flush=True)
-        if lines := getattr(pages, part)():
-            lines += ["", f"These numbers are those {options.note}."]
-            PAGE.write_text(put(PAGE.read_text(encoding="utf-8"), part, lines), encoding="utf-8")
+        made = getattr(pages, part)()
+        for name, lines in (made if isinstance(made, dict) else {part: made}).items():
+            if lines:
+                lines = [*lines, "", f"These numbers are those {options.note}."]
+                PAGE.write_text(put(PAGE.read_text(encoding="utf-8"), name, lines), encoding="utf-8")
 
 
 if __name__ == "__main__":

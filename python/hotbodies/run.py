@@ -51,7 +51,7 @@ def find_program(program=None):
     """The program to run: the one given, that of HOT_PROGRAM, the `hot` of the repository, or `hot` on the PATH.
 
     The repository's `hot` is a script that proves and builds the program first where that has not been done, which takes
-    about half an hour and is told on the error stream.
+    about eighteen minutes on four processors and is told on the error stream.
 
     Args:
         program: a path, or None.

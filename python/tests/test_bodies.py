@@ -134,7 +134,7 @@ class Refusals(unittest.TestCase):
 
     def test_what_would_lose_too_much(self):
         self.refused(r"masses\[1\] is 1e-09: beside the heaviest, 1.0", masses=[1, 1e-9, 1], kind=LossError)
-        self.refused(r"masses\[1\] is 1e-05", masses=[1, 1e-5, 1], loss=1e-4, kind=LossError)
+        self.refused(r"masses\[1\] is 1e-05", masses=[1, 1e-5, 1], loss=1e-6, kind=LossError)
         pairs = np.array([[0.0, 0, 0], [1e-6, 0, 0], [1.0, 0, 0], [1.0 + 1e-6, 0, 0]])
         write_bodies(io.BytesIO(), pairs, 1.0)
         pairs[:, 0] *= [1, 1e-4, 1, 1]
