@@ -28,6 +28,7 @@ from cases.layouts import pick_file
 from cases.lists import list_case
 from cases.worked import worked
 from cases.worked_lists import FIRST, NONE, OTHER_BITS, SECOND, worked_lists
+from cases.worked_near import worked_near
 from cases.worked_runs import worked_runs
 from check_program import TOP, built_program
 
@@ -37,8 +38,8 @@ MORE_TOKENS = ["# SDF\n", "# SDF-EOH\n", "}[];", "}[1];", "struct {", "parameter
 
 def corpus(rng):
     """The calls, the inputs, the tokens of words and of inputs from which cases are made."""
-    known = [case for case, _ in [*worked(), *worked_runs(), *worked_lists()]]
-    calls = [case.words for case in known] + [good_words(rng, name) for name in ["forces", "forces", "split"] * 200]
+    known = [case for case, _ in [*worked(), *worked_runs(), *worked_lists(), *worked_near()]]
+    calls = [case.words for case in known] + [good_words(rng, name) for name in ["forces", "forces", "split", "near"] * 150]
     calls += [random_call(rng).words for _ in range(200)] + [list_case(rng).words for _ in range(200)]
     inputs = [case.stdin for case in known] + [pick_file(rng, 9).data(rng) for _ in range(200)]
     inputs += [make(rng) for make in (mutated_header, spoilt_rows, wide_header) for _ in range(60)]

@@ -3,7 +3,7 @@
 Usage: tools/check [--program PATH | --try] [--cases N] [--seed S]
 
 The cases are those worked by hand, files at the limits, streams that fail or have little room, a hundred random files
-whose forces are written as SDF, two hundred random lists of files, of which some are cut, faulty, named twice or
+whose forces are written as SDF, two hundred of neighbours, two hundred random lists of files, of which some are cut, faulty, named twice or
 standard input, forty files that are also given in several parts (the answer is the same), and N random ones: runs over ranks with weights, mails and reports, generated bodies
 and samples, body files of every layout, trees cut on many ranks, changed headers, spoilt rows, and lists of words. Output, error stream and status are compared. The program
 is the built one, which `./hot` builds where it is not built yet; with --try it is the same source without proof
@@ -30,10 +30,12 @@ from cases.faults import long_header, mutated_header, plain_file, spoilt_rows, w
 from cases.large import large_cases, largest
 from cases.layouts import pick_file
 from cases.lists import MAX_BROKEN, cut_cases, list_case
+from cases.nears import near_case
 from cases.runs import make_case, run_case, sample_case, sdf_case
 from cases.splits import split_case
 from cases.worked import worked
 from cases.worked_lists import worked_lists
+from cases.worked_near import worked_near
 from cases.worked_runs import worked_runs
 from reference.header import MAX_ROWS
 from reference.program import answer
@@ -41,6 +43,7 @@ from unproved import can_try, run_unproved
 
 TOP = os.path.dirname(os.path.dirname(os.path.abspath(__file__)))
 SDF_CASES = 100  # random files whose forces are written as SDF
+NEAR_CASES = 200  # random files whose neighbours are told
 LIST_CASES, CUT_CASES = 200, 40  # random lists of files; files that are also given in several parts
 MOST_SHOWN = 10000  # bytes of a text that differs
 STREAMS = ["out", "err"]
@@ -71,7 +74,7 @@ def random_case(rng):
 
 def room_case(rng):
     """A call with a stream that fails within, or just behind, what is written to it."""
-    case = rng.choices([run_case, sample_case, make_case, split_case], [6, 1, 1, 1])[0](rng)
+    case = rng.choices([run_case, sample_case, make_case, split_case, near_case], [6, 1, 1, 1, 1])[0](rng)
     stream = rng.choice(STREAMS)
     case.kind = "room"
     length = len(answer(case)[1 + STREAMS.index(stream)])
@@ -84,6 +87,7 @@ def stream_cases(rng):
     good, cut = plain_file(rng, 3, "x,y,z", "3"), plain_file(rng, 3, "x,y,z", "4")
     words = [["forces"], ["forces", "-h"], ["force"], ["make"], ["make", "--seed"], ["split", "--ranks", "0"]]
     words += [["forces", "--ranks", "3", "--report"], ["split", "--ranks", "2"], ["sample", "--bodies", "9"]]
+    words += [["near", "--ranks", "2"], ["near", "--radius"]]
     cases = [
         Case("full", call, data, room={stream: 0}, unread=unread)
         for call in words
@@ -95,7 +99,7 @@ def stream_cases(rng):
     whole = [*(case.stdin for case, _ in worked()), *(spoilt_rows(rng) for _ in range(20))]
     for data in [b"# SDX", good + b"\0", *(mutated_header(rng) for _ in range(20)), *whole]:
         if len(data) <= MAX_BROKEN:
-            words = rng.choice([["split"], ["forces"], ["forces", "--ranks", "2"], ["forces", "--report"]])
+            words = rng.choice([["split"], ["near"], ["forces"], ["forces", "--ranks", "2"], ["forces", "--report"]])
             cases.append(Case("broken", words, data, broken=True))
             cases.append(Case("broken", words, data[: rng.randint(0, len(data))], broken=True))
     return cases
@@ -173,9 +177,10 @@ def all_agree(known, answers):
 
 def gather(rng, count):
     """Pairs of a case and the answer wanted."""
-    known = [*worked(), *worked_runs(), *worked_lists()]
+    known = [*worked(), *worked_runs(), *worked_lists(), *worked_near()]
     cut = [pair for _ in range(CUT_CASES) for pair in cut_cases(rng)]
     cases = limit_cases(rng) + large_cases() + stream_cases(rng) + [sdf_case(rng) for _ in range(SDF_CASES)]
+    cases += [near_case(rng) for _ in range(NEAR_CASES)]
     cases += [list_case(rng) for _ in range(LIST_CASES)] + [random_case(rng) for _ in range(count)]
     with ProcessPoolExecutor() as pool:
         later = pool.map(answer, cases)

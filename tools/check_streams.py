@@ -123,7 +123,7 @@ def output_trials():
     outputs = {"a full device": device("/dev/full", "wb"), "a pipe that nobody reads": unread}
     outputs["a full pipe"] = full_pipe
     outputs["a device that is read only"] = device("/dev/zero", "rb")
-    calls = [WORDS, ["split"], ["make"], ["sample"], [*WORDS, "--form", "sdf"], [*WORDS, "--ranks", "2", "--report"]]
+    calls = [WORDS, ["split"], ["near"], ["make"], ["sample"], [*WORDS, "--form", "sdf"], [*WORDS, "--ranks", "2", "--report"]]
     for name, out in outputs.items():
         for words in calls:
             yield Trial(f"{words[0]} to {name}", words, WRITE_FAULT, {"stdin": given(TWO), "stdout": out})

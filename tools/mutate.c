@@ -239,6 +239,9 @@ static int is_one_line(const Text *text) {
   return has_end(text) && memchr(text->bytes, '\n', text->length) == text->bytes + text->length - 1;
 }
 
+// How the outputs of lines begin.
+static const char *FRONTS[] = {"# hot forces 1\n", "# hot split 1\n", "# hot near 1\n", "sample bodies "};
+
 // What is wrong with an answer, or NULL.
 static const char *judge(int status, const Text *out, const Text *err, int are_texts) {
   if (status != 0 && out->length) return "a refusal with output";
@@ -248,7 +251,9 @@ static const char *judge(int status, const Text *out, const Text *err, int are_t
     if (err->length && !(begins(err, "# hot report 1\n") && has_end(err))) return "status 0 with a line";
     if (begins(out, "# SDF\n")) return NULL;
     if (!has_end(out)) return "an output that is cut";
-    return begins(out, "# hot forces 1\n") || begins(out, "# hot split 1\n") || begins(out, "sample bodies ") ? NULL : "an unknown output";
+    for (size_t k = 0; k < sizeof FRONTS / sizeof *FRONTS; k++)
+      if (begins(out, FRONTS[k])) return NULL;
+    return "an unknown output";
   case 2:
     return begins(err, "hot: A") && has_end(err) ? NULL : "refused words with another line";
   case 3:

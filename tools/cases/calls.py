@@ -5,11 +5,12 @@ import random
 from cases import Case
 from cases.layouts import pick_file
 from reference.header import Refused
-from reference.words import read
+from reference.words import FILE_COMMANDS, read
 
 MOST_SAMPLED = 200  # bodies of a sample, for the second computation's sake
-COMMANDS = ["forces", "split", "make", "sample"]
+COMMANDS = ["forces", "split", "make", "sample", "near"]
 OPTIONS = ["--ranks", "--theta", "--eps", "--leaf", "--moments", "--mail", "--form", "--bodies", "--seed", "--report"]
+OPTIONS += ["--radius"]
 GOOD = {
     "--ranks": ["1", "01", "1", "1", "2", "64"],
     "--theta": ["0/1", "7/10", "1024/1024", "1/0001", "1/1024", "00/1", "3/2"],
@@ -20,8 +21,9 @@ GOOD = {
     "--form": ["text", "text", "sdf"],
     "--bodies": ["0", "10", "33", "01", "262144"],
     "--seed": ["0", "18446744073709551615"],
+    "--radius": ["0", "256", "1073741824", "00000000000000000768", "65536"],
 }
-BAD = """0 65 -1 +1 1.0 0x1 18446744073709551616 000000000000000000001 99999999999999999999 268435457 262145 1025 1/0 1025/1
+BAD = """0 65 -1 +1 1.0 0x1 18446744073709551616 000000000000000000001 99999999999999999999 268435457 1073741825 262145 1025 1/0 1025/1
 1/1025 1/1/1 /1 1/ / 1 Prompt prompts sdf text single -- - --eps --report forces ٣ １""".split()
 NAMES = ["-", "bodies.sdf", "./bodies.sdf", "-x", "bad.sdf", "empty", "nowhere", "", ".", "bodies.sdf/", "é.sdf"]
 
@@ -43,8 +45,10 @@ def good_words(rng, command="forces"):
     if command == "split":
         return split_words(rng)
     options = ["--theta", "--eps", "--leaf", "--ranks", "--mail", "--moments"]
+    if command == "near":
+        options = ["--ranks", "--leaf", "--mail", "--radius"]
     words = [[option, rng.choice(GOOD[option])] for option in rng.sample(options, rng.randint(0, 4))]
-    if rng.random() < 0.3:
+    if command == "forces" and rng.random() < 0.3:
         words.insert(rng.randint(0, len(words)), rng.choice([["--report"], ["--form", "text"], ["--form", "sdf"]]))
     return [command, *[word for option in words for word in option]]
 
@@ -65,19 +69,21 @@ def random_words(rng):
     words = [rng.choice([*COMMANDS, "forces", "forces", "forces"])]
     pool, count = OPTIONS, rng.choice([0, 1, 1, 2, 2, 3, 5])
     if words[0] == "forces" and rng.random() < 0.8:
-        pool = OPTIONS[:7] + OPTIONS[9:]
+        pool = OPTIONS[:7] + OPTIONS[9:10]
     elif words[0] == "split" and rng.random() < 0.8:
         pool, count = ["--ranks"], rng.choice([0, 1, 1, 1, 2])
     elif words[0] == "make" and rng.random() < 0.8:
         pool, count = ["--bodies", "--seed"], rng.choice([0, 1, 1, 2, 2])
     elif words[0] == "sample" and rng.random() < 0.8:
         pool = [*OPTIONS[:6], "--bodies", "--bodies", "--seed"]
+    elif words[0] == "near" and rng.random() < 0.8:
+        pool = ["--ranks", "--leaf", "--mail", "--radius", "--radius"]
     for _ in range(count):
         option = rng.choice(pool)
         words.append(option)
         if option != "--report":
             words.append(pick_value(rng, option))
-    if rng.random() < (0.5 if words[0] in ("forces", "split") else 0.1):
+    if rng.random() < (0.5 if words[0] in FILE_COMMANDS else 0.1):
         words += [rng.choice(NAMES) for _ in range(rng.choice([1, 1, 1, 2, 3, 16, 17]))]
     if rng.random() < 0.3:
         at = rng.randrange(1, len(words) + 1)
@@ -104,7 +110,7 @@ def random_call(rng):
     }
     files["./bodies.sdf"] = files["bodies.sdf"]
     if rng.random() < 0.45:
-        words = [*good_words(rng, rng.choice(["forces", "forces", "forces", "split"]))]
+        words = [*good_words(rng, rng.choice(["forces", "forces", "forces", "split", "near"]))]
         words += [rng.choice(NAMES) for _ in range(rng.choice([1, 1, 1, 1, 2]))]
     else:
         words = random_words(rng)

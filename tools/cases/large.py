@@ -1,7 +1,8 @@
-"""Samples of many bodies, and the longest generated file."""
+"""Samples of many bodies, the longest generated file, and many neighbours."""
 
 from cases import Case
 from cases.runs import CLOSE
+from cases.worked import BARE, file_of
 
 CALLS = [
     "sample",
@@ -19,7 +20,25 @@ def large_cases():
     return [Case("large", call.split()) for call in CALLS]
 
 
+# Bodies at one distance from the next on a line, in the file by steps of 1365 places, each with up to 100 neighbours
+COUNT, APART, REACH = 4096, 500, 50
+
+
+def on_a_line():
+    """The call for their neighbours, and the answer by their places."""
+    place_of = [row * 1365 % COUNT for row in range(COUNT)]
+    row_at = {place: row for row, place in enumerate(place_of)}
+    lines = ["# hot near 1"]
+    for row, place in enumerate(place_of):
+        near = sorted(row_at[k] for k in range(max(0, place - REACH), min(COUNT, place + REACH + 1)) if k != place)
+        lines.append(" ".join(map(str, (row, len(near), *near))))
+    data = file_of(BARE, *((APART * place, 0, 0) for place in place_of))
+    words = ["near", "--radius", str(256 * APART * REACH), "--ranks", "8"]
+    return Case("large", words, data), (0, "".join(f"{line}\n" for line in [*lines, f"# end {COUNT}"]).encode(), b"")
+
+
 def largest():
     """Each of the largest cases, and its answer."""
+    yield on_a_line()
     for mail, rounds in ROUNDS.items():
         yield Case("large", (LARGEST + mail).split()), (0, LINE.format(rounds).encode(), b"")

@@ -4,6 +4,7 @@ from cases import Case
 from cases.calls import split_words
 from cases.faults import mutated_header, spoilt_rows
 from cases.layouts import COUNTS, WHOLE, packed, pick_cube, pick_file
+from cases.nears import near_words
 from cases.runs import run_words
 from reference.header import MAX_MASS
 from reference.words import MAX_FILES
@@ -16,8 +17,11 @@ HEAVY = 150  # bodies of the greatest mass in one file: two such files are too h
 
 def list_words(rng):
     """A command that takes files, and its options."""
-    if rng.random() < 0.3:
+    kind = rng.random()
+    if kind < 0.3:
         return split_words(rng)
+    if kind < 0.45:
+        return ["near", *near_words(rng)]
     words = [run_words(rng), rng.choice([[], ["--report"], ["--form", "sdf"]])]
     rng.shuffle(words)
     return ["forces", *(word for part in words for word in part)]

@@ -5,6 +5,7 @@ from functools import cache
 from reference.forces import Walk, forces_sdf, forces_text
 from reference.generator import made_bodies, made_file
 from reference.header import Refused
+from reference.near import near_results, near_text
 from reference.report import Run, report_text, sample_text
 from reference.rows import Bodies
 from reference.split import split_text
@@ -51,6 +52,10 @@ def with_bodies(command, options, found):
     """The answer of a command on the bodies of its files."""
     if command == "split":
         return 0, split_text(found, options["--ranks"]).encode(), b""
+    if command == "near":
+        results = near_results(found, options["--radius"], options["--leaf"])
+        Run(found, results, options)  # (none of its numbers is printed, but it checks the exchange)
+        return 0, near_text(found, results).encode(), b""
     results = results_of(found, options)
     report = report_text(Run(found, results, options)) if options["--report"] else ""
     if options["--form"] == "sdf":

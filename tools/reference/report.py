@@ -4,6 +4,7 @@ from reference.exchange import exchange
 from reference.needed import Needs
 from reference.split import Split
 
+EAGER, MOST_ROUNDS = ("prompt", "last"), 44  # the mails by which a round takes all letters, and its rounds at most
 
 class Run:
     """A run over ranks: what each opens and needs by the definitions, and the letters and rounds of the exchange."""
@@ -15,6 +16,7 @@ class Run:
         self.letters, self.rounds, asked = exchange(self.needs, options["--mail"])
         assert asked == self.needed, "the ranks did not ask for what they need"
         assert self.rounds <= self.needs.bound(), "the rounds are above the bound"
+        assert self.rounds <= MOST_ROUNDS or options["--mail"] not in EAGER, "the rounds are above those of the levels"
 
 
 def report_text(run):

@@ -9,12 +9,15 @@ COMMANDS = {
     "split": ["--ranks"],
     "make": ["--bodies", "--seed"],
     "sample": ["--bodies", "--seed", "--ranks", "--theta", "--eps", "--leaf", "--moments", "--mail"],
+    "near": ["--ranks", "--leaf", "--mail", "--radius"],
 }
+FILE_COMMANDS = ["forces", "split", "near"]  # those that read files
 LIMITS = {
     "--ranks": (1, 64),
     "--eps": (1, 268435456),
     "--leaf": (1, 64),
     "--moments": (1, 2),
+    "--radius": (0, 2**30),
     "--bodies": (0, MAX_GENERATED),
     "--seed": (0, 2**64 - 1),
 }
@@ -27,6 +30,7 @@ DEFAULTS = {
     "--mail": "prompt",
     "--form": "text",
     "--report": False,
+    "--radius": 256,
     "--bodies": 1000,
     "--seed": 0,
 }
@@ -79,7 +83,7 @@ def read(words):
         last = at == len(words) - 1
         at += 1
         if not word.startswith("--"):
-            if command not in ("forces", "split"):
+            if command not in FILE_COMMANDS:
                 raise Refused(f"A7 extra word {word}")
             files = files_of(words[at - 1 :])
             break
