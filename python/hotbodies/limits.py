@@ -12,6 +12,7 @@ MAX_RATIO_NUMBER = 1024
 MAX_RANKS = 64
 MAX_LEAF = 64
 MAX_MOMENTS = 2  # 1 for masses and centres alone
+MAX_RADIUS = 2**30  # in fine units, which reaches across the cube
 MAX_WORK = 2**32 - 1
 MIN_IDENT, MAX_IDENT = -(2**63), 2**64 - 1
 MAX_HEADER_BYTES = 65_536
