@@ -20,7 +20,7 @@ use Rattle.hot_words.specs.Faults.{fault_first}
 use Rattle.hot_words.specs.Numbers.{number_of, within, softening_of}
 use Rattle.hot_words.specs.Places.{value_of}
 use Rattle.hot_words.specs.Settings.{setting_of}
-use Rattle.hot_words.specs.Commands.{JobValue, CommandValue, forces, split, make, sample}
+use Rattle.hot_words.specs.Commands.{JobValue, CommandValue, forces, split, make, sample, near}
 use Rattle.hot_words.specs.Words.{command_by, unless_fault, command_behind, command_of}
 use Rattle.hot.specs.declared.status.Status.TheVariants.{Done}
 use Rattle.hot.specs.Runs.{settings_of, log_of}
@@ -59,6 +59,7 @@ softening_in (Ok (forces job)) = job.eps
 softening_in (Ok (split ranks first files)) = 1
 softening_in (Ok (make bodies seed)) = 1
 softening_in (Ok (sample bodies seed job)) = 1
+softening_in (Ok (near radius job)) = 1
 softening_in (Err fault) = 1
 
 by_name : (name : CommandName) (words : List (List ℕ)) (fault : Option WordFault) → 1 ≤ softening_in (unless_fault fault (command_by name words))
@@ -67,6 +68,7 @@ by_name names.Forces words None = softening_from (value_of names.Forces words (c
 by_name names.Split words None = omega arith
 by_name names.Make words None = omega arith
 by_name names.Sample words None = omega arith
+by_name names.Near words None = omega arith
 
 by_command : (name : Option CommandName) (words : List (List ℕ)) → 1 ≤ softening_in (command_behind name words)
 by_command None words = omega arith

@@ -117,8 +117,7 @@ pub ran : {W X : Type 0} (desk : W → Desk) (job : JobValue) (set : SetValue) (
     → (u : WireUse) × Wired desk old new u × RunLeaves (Some (gravity_run job)) set u × IsRunOf job set shows (log_of u) o placed report
 ran desk job set o shows old new accs efforts opened rounds e x placed report unused rows wired left walk told are = absurd left
 ran desk job set o shows old new accs efforts opened rounds e x placed report (used d) rows wired left walk told are =
-    let log : (desk new).log ≡ d.log = ap (λ (y : Desk). y.log) wired.0 in
-    (
+    let log : (desk new).log ≡ d.log = ap (λ (y : Desk). y.log) wired.0 in (
       used d,
       wired,
       ran_left desk (gravity_run job) set o old new e x (used d) left,

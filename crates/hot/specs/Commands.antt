@@ -2,10 +2,10 @@
 use Rattle.std.specs.Prelude.{ℕ, zero, suc, List, [], ◌∷◌, Option, Some, None, Result, Ok, Err, codes}
 use Rattle.std.specs.Option.{unwrap_or}
 use Rattle.hot_words.specs.declared.faults.WordFault.{WordFault}
-use Rattle.hot_words.specs.Commands.{CommandValue, forces, split, make, sample}
+use Rattle.hot_words.specs.Commands.{CommandValue, forces, split, make, sample, near}
 use Rattle.hot_words.specs.Words.{command_of}
 use Rattle.hot_words.specs.Names.{names_at}
-use Rattle.hot.specs.Runs.{RunValue, gravity_run}
+use Rattle.hot.specs.Runs.{RunValue, gravity_run, near_run}
 
 -- the place of the first word that names a file of a command, and how many such words there are, where it reads files
 abbrev pub input_of : CommandValue → Option (ℕ × ℕ)
@@ -13,6 +13,7 @@ input_of (forces job) = Some (job.first, job.files)
 input_of (split ranks first files) = Some (first, files)
 input_of (make bodies seed) = None
 input_of (sample bodies seed job) = None
+input_of (near radius job) = Some (job.first, job.files)
 
 -- the names of so many files from a place of the words on; where there are none, that of standard input
 abbrev pub input_names : List (List ℕ) → (first files : ℕ) → List (List ℕ)
@@ -47,6 +48,7 @@ run_of (forces job) = Some (gravity_run job)
 run_of (split ranks first files) = None
 run_of (make bodies seed) = None
 run_of (sample bodies seed job) = Some (gravity_run job)
+run_of (near radius job) = Some (near_run radius job)
 
 -- the same where there is a command
 abbrev pub run_by : Result CommandValue WordFault → Option RunValue

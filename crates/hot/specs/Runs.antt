@@ -4,6 +4,7 @@ use Rattle.hot_units.specs.Values.{BodyValue, CellValue}
 use Rattle.hot_units.specs.declared.mail.Mail.{Mail}
 use Rattle.hot_units.specs.Order.{ordered}
 use Rattle.hot_model.specs.Trees.{Settings, opens_of}
+use Rattle.near_walk.specs.Near.{near_opens}
 use Rattle.rank_model.specs.World.{World}
 use Rattle.rank_model.specs.Split.{weight_in, split_world}
 use Rattle.rank_model.specs.Needs.{Needs, round_bound}
@@ -47,6 +48,10 @@ settings_of job = record { num = job.ratio.num; den = job.ratio.den; eps = job.e
 -- a run by gravity: a body opens the cells that it does not accept
 abbrev pub gravity_run : JobValue → RunValue
 gravity_run job = record { ranks = job.ranks; leaf = job.leaf; mail = job.mail; opens = opens_of (settings_of job) }
+
+-- a run by a radius: a body opens the cells whose boxes come within it
+abbrev pub near_run : ℕ → JobValue → RunValue
+near_run radius job = record { ranks = job.ranks; leaf = job.leaf; mail = job.mail; opens = near_opens radius }
 
 -- the world of a run: the bodies in key order, split by their weights over its ranks, with its leaf limit
 abbrev pub world_in : RunValue → SetValue → World

@@ -1,23 +1,25 @@
 // Runs over ranks, and what is printed of them.
-ghost use Rattle.std.specs.Prelude.{◌≡◌, ◌≤◌, ◌==◌, ℕ, List, [], Some, All, IfOk};
+ghost use Rattle.std.specs.Prelude.{◌≡◌, ◌≤◌, ◌==◌, ℕ, List, [], map, Some, All, IfOk};
 ghost use Rattle.hot_units.specs.Limits.{max_generated};
 ghost use Rattle.hot_units.specs.Bodies.{RowsCount};
+ghost use Rattle.near_walk.specs.Limits.{max_radius};
 ghost use Rattle.sdf_rows.specs.Columns.{Is64Bits};
 ghost use Rattle.body_file.specs.Files.{HasBodies};
 ghost use Rattle.body_maker.specs.Made.{made_set};
 ghost use Rattle.hot_words.specs.Commands.{job_value};
-ghost use Rattle.hot.specs.Runs.{WireUse, Wired, log_of, gravity_run};
+ghost use Rattle.hot.specs.Runs.{WireUse, Wired, log_of, gravity_run, near_run};
 ghost use Rattle.hot.specs.Texts.{sample_of};
 ghost use Rattle.hot.specs.Prepared.{gravity_of, IsWalkOf, WalkLeaves, walk_report, IsRunOf};
-ghost use Rattle.hot.specs.Prepared.{AreForcesOf, ComputeLeaves};
+ghost use Rattle.hot.specs.Prepared.{AreForcesOf, near_of, AreNeighboursOf, ComputeLeaves};
 
-use crate::answer::Forces;
+use crate::answer::{Forces, Neighbours};
 use body_maker::sample_bodies;
 use body_set::BodySet;
 use fixed_kernel::ForceVisit;
 use hot_units::Acc3;
 use hot_words::Job;
 use key_order::Ordered;
+use near_walk::{NearAcc, NearVisit};
 use rank_walk::{Found, Sharing, place_by_row, walk_over_ranks};
 use run_report::{RunReport, Sample};
 use std::alloc::{AllocError, Global};
@@ -184,4 +186,74 @@ pub fn compute_sample<R: Threads + Sync, M: Wire, G: Gate>(
         return Err(AllocError);
     };
     Ok(Sample::of(bodies, seed, report, &forces))
+}
+
+/// The visit of neighbours within a radius.
+fn near_visit(radius: u32) -> NearVisit
+    requires within { radius ≤ max_radius }
+    ensures value { result ≡ radius }
+{
+    match NearVisit::new(radius) {
+        Some(visit) => visit,
+        None => unreachable!(),
+    }
+}
+
+/// The walk of all bodies for their neighbours within a radius, shared out over ranks.
+fn walk_near<R: Threads + Sync, M: Wire, G: Gate>(
+    rt: &R,
+    alloc: Global,
+    radius: u32,
+    job: &Job,
+    ordered: &Ordered,
+    wire: &mut M,
+    gate: &G,
+) -> Result<Found<NearAcc>, AllocError>
+    requires within { radius ≤ max_radius }
+    requires quiet { (M.desk wire.old).pending ≡ [] }
+    ensures walked { (wu : WireUse) × Wired M.desk wire.old wire.new wu
+        × WalkLeaves (near_run radius (job_value job.now)) ordered.now wu result
+        × IfOk result (λ f. IsWalkOf (near_of radius)
+        (near_run radius (job_value job.now)) ordered.now (log_of wu)
+        f.accs.items f.efforts.items f.opened.items f.rounds) }
+{
+    let visit = near_visit(radius);
+    walk_over_ranks(rt, alloc, ordered, sharing_of(job), visit, wire, gate)
+}
+
+/// The rows that were gathered for each body, ascending, in the order of the bodies.
+fn lists_of(alloc: Global, accs: Vec<NearAcc>) -> Result<Vec<Vec<u32>>, AllocError>
+    ensures lists { IfOk result (λ lists.
+        map (λ rows. rows.items) lists.items ≡ map (λ a. a.rows) accs.items) }
+{
+    let mut lists = Vec::with_capacity(alloc, accs.len())?;
+    'accs: for acc in accs {
+        lists.push(acc.into_rows())?;
+    }
+    Ok(lists)
+}
+
+/// The rows of the bodies of files within a radius of each, by a run over ranks. They are put into
+/// the order of the files.
+pub fn compute_near<R: Threads + Sync, M: Wire, G: Gate>(
+    rt: &R,
+    alloc: Global,
+    radius: u32,
+    job: &Job,
+    set: BodySet,
+    wire: &mut M,
+    gate: &G,
+) -> Result<Neighbours, AllocError>
+    requires within { radius ≤ max_radius }
+    requires of_files { (files : List (List ℕ)) × HasBodies files set }
+    requires quiet { (M.desk wire.old).pending ≡ [] }
+    ensures computed { (wu : WireUse) × Wired M.desk wire.old wire.new wu
+        × ComputeLeaves (Some (near_run radius (job_value job.now))) set wu result
+        × IfOk result (AreNeighboursOf radius set) }
+{
+    let ordered = set.order(alloc)?;
+    let found = walk_near(rt, alloc, radius, job, &ordered, wire, gate)?;
+    let placed = place_by_row(alloc, ordered.bodies(), found.accs)?;
+    let lists = lists_of(alloc, placed)?;
+    Ok(Neighbours { ordered, lists })
 }
