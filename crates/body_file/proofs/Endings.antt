@@ -77,7 +77,7 @@ file_read before r set bytes n b ends =
     record {
       good = file_ended before r set bytes (Ok n) b ends;
       are = set_read before r set bytes b;
-      after = record { few = omega (arith, bodies, count, few); named = b.rows.named };
+      after = record { few = omega (arith, bodies, count, few); named = b.rows.named; slow = b.rows.slow };
       more = omega (arith, bodies);
       short = rw left (omega (arith, exact, head, size, sum));
     }

@@ -51,11 +51,12 @@ rows_begin before l r set old sound e f =
       bodies = f ∙ sym (rows_none before) ∙ ap (with_rows before) (sym none);
       good = rw (none, none_stated l.count l.width) refl;
       named = subst (λ (v : SetValue). All Is64Bits v.idents) (sym f) old.named;
+      slow = subst (λ (v : SetValue). All Is64BitVelocity v.velocities) (sym f) old.slow;
     }
 
 -- the set that the rows of a file follow stands as one before it
 pub begun_behind : (before : Option SetValue) (cube : CubeValue) → AreBefore before → IsSetBefore (set_before before cube)
-begun_behind None cube h = record { few = omega arith; named = All-nil Is64Bits }
+begun_behind None cube h = record { few = omega arith; named = All-nil Is64Bits; slow = All-nil Is64BitVelocity }
 begun_behind (Some set) cube h = h
 
 -- it has the bodies of the files before
