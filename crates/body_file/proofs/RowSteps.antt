@@ -2,6 +2,7 @@
 use Rattle.std.proofs.Common.{◌≡◌, ℕ, ◌+◌, ◌-◌, ◌*◌, ◌/◌, ◌≤◌, ◌<◌, ◌⊎◌, inl, inr, Bool, true, false, List, [], ◌∷◌, ◌++◌, length, take, drop, min, ℤ, Option, Some, None, Result, Ok, Err, refl, sym, ap, ◌∙◌, arith, nat_lt, if◌then◌else◌, length-append, length-take, append_assoc, append-nil, subst, All}
 use Rattle.std.proofs.lemmas.List.{take-append-drop}
 use Rattle.std.proofs.lemmas.Bool.{cases_Bool, ltb-true}
+use Rattle.std.proofs.lemmas.Int.{ints}
 use Rattle.hot_units.specs.Values.{CubeValue}
 use Rattle.sdf_header.specs.Layouts.{LayoutValue, IsLayout}
 use Rattle.hot_units.specs.declared.raw_row.RawRow.{RawRow}
@@ -191,7 +192,7 @@ next_fault before set raws raw o e good f =
 
 -- a column's number fits 64 bits, and so does 0 where there is none
 small_or_zero : (o : Option ℤ) → Are64Bits o → Is64Bits (or_zero o)
-small_or_zero None h = (tt, tt)
+small_or_zero None h = (omega (arith, ints), omega (arith, ints))
 small_or_zero (Some z) h = h
 
 -- the velocity of a row whose numbers fit 64 bits

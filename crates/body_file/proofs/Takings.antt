@@ -21,6 +21,7 @@ use Rattle.body_file.specs.declared.fault.FileError.TheVariants.{Broken, Refused
 use Rattle.body_file.specs.declared.reader.BodyReader.{BodyReader}
 use Rattle.body_file.specs.declared.reader.BodyReader.TheVariants as stage
 use Rattle.body_file.specs.Faults.{first_refused, differs, set_before, decided_behind}
+use Rattle.body_file.specs.Files.{Is64BitVelocity}
 use Rattle.body_file.specs.Reading.{IsSetBefore, AreBefore, count_of, file_limit, IsAt, StopsRows, IsWholeHeader, IsHeader, IsBehindHeader, HasTaken, Stops, given_to}
 use Rattle.body_file.proofs.Headers.{decided_by_rows, open_undecided}
 use Rattle.body_file.proofs.RowLists.{rows_behind, rows_none}

@@ -24,8 +24,8 @@ fn stop(error: FileError, file: usize) -> ReadError
 }
 
 /// The bodies of the files of these names, 1 to 16, which are read one after another, each to its
-/// end, as one list: with the ident, the work weight and the velocity of each, in the order of the rows of
-/// all.
+/// end, as one list: with the ident, the work weight and the velocity of each, in the order of the
+/// rows of all.
 ///
 /// The files are of this project's own profile, which is only after the self-describing files (SDF)
 /// of the N-body codes: a header in words, and rows of numbers behind it. Places are in fine units,
