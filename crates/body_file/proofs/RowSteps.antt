@@ -1,18 +1,16 @@
 -- One answer of the reader of rows, and what it does to the bodies.
-use Rattle.std.proofs.Common.{◌≡◌, ℕ, ◌+◌, ◌-◌, ◌*◌, ◌/◌, ◌≤◌, ◌<◌, ◌⊎◌, inl, inr, Bool, true, false, List, [], ◌∷◌, ◌++◌, length, take, drop, min, ℤ, Option, Some, None, Result, Ok, Err, refl, sym, ap, ◌∙◌, arith, nat_lt, if◌then◌else◌, length-append, length-take, append_assoc, append-nil, subst, All}
-use Rattle.std.proofs.lemmas.List.{take-append-drop}
+use Rattle.std.proofs.Common.{◌≡◌, ℕ, ◌+◌, ◌*◌, ◌/◌, ◌≤◌, ◌⊎◌, inl, inr, Bool, true, false, List, [], ◌∷◌, ◌++◌, length, take, drop, ℤ, Option, Some, None, Result, Ok, Err, refl, sym, ap, ◌∙◌, arith, nat_lt, if◌then◌else◌, length-append, length-take, append_assoc, append-nil, subst, All}
 use Rattle.std.proofs.lemmas.Bool.{cases_Bool, ltb-true}
 use Rattle.std.proofs.lemmas.Int.{ints}
-use Rattle.hot_units.specs.Values.{CubeValue}
-use Rattle.sdf_header.specs.Layouts.{LayoutValue, IsLayout}
+use Rattle.sdf_header.specs.Layouts.{LayoutValue}
 use Rattle.hot_units.specs.declared.raw_row.RawRow.{RawRow}
 use Rattle.sdf_rows.specs.declared.raw_row.RowFault.{RowFault}
 use Rattle.sdf_rows.specs.declared.raw_row.RowFault.TheVariants.{Trailing}
 use Rattle.sdf_rows.specs.declared.raw_row.RowStep.{RowStep}
 use Rattle.std.proofs.lemmas.List.Elements.{All-push}
 use Rattle.sdf_rows.specs.Columns.{Is64Bits, Are64Bits}
-use Rattle.sdf_rows.specs.Rows.{Has64Bits, rows_from, ending_from, is_beyond_at}
-use Rattle.sdf_rows.specs.Reading.{RowsValue, IsBehind, is_full, wanted, answer_from, read_of, given_by, row_list}
+use Rattle.sdf_rows.specs.Rows.{Has64Bits, rows_from, is_beyond_at}
+use Rattle.sdf_rows.specs.Reading.{RowsValue, IsBehind, is_full, wanted, answer_from, row_list}
 use Rattle.sdf_header.proofs.Known.{split_piece}
 use Rattle.sdf_rows.proofs.Places.{part_short, rows_lie}
 use Rattle.sdf_rows.proofs.Steps.{none_beyond, part_length, full_rows, all_beyond}
@@ -27,7 +25,7 @@ use Rattle.body_file.specs.declared.fault.FileFault.{FileFault}
 use Rattle.body_file.specs.declared.fault.FileFault.TheVariants.{End}
 use Rattle.body_file.specs.declared.fault.FileError.{FileError}
 use Rattle.body_file.specs.declared.fault.FileError.TheVariants.{Broken, Refused, Memory}
-use Rattle.body_file.specs.Faults.{first_of, row_error, named, row_fault, first_refused, ended_by, end_fault, rows_fault}
+use Rattle.body_file.specs.Faults.{first_of, row_error, named, row_fault, ended_by, end_fault, rows_fault}
 use Rattle.body_file.specs.Files.{Is64BitVelocity}
 use Rattle.body_file.specs.Reading.{IsAt, PushesRow, StopsRows}
 use Rattle.body_file.proofs.RowLists.{refused_behind, refused_append, refused_push, rows_behind, rows_prefix, rows_one_more}

@@ -1,18 +1,16 @@
 -- What a reader of a body file was given.
-use Rattle.std.proofs.Common.{◌≡◌, ℕ, ◌+◌, ◌-◌, ◌*◌, ◌/◌, ◌≤◌, ◌<◌, Bool, true, false, List, [], ◌++◌, length, drop, Option, Some, None, Result, Ok, Err, refl, sym, ap, ◌∙◌, arith, append_assoc, append-nil, length-append, subst, All, if◌then◌else◌}
-use Rattle.std.proofs.Math.Seq.{drop-append_seam}
+use Rattle.std.proofs.Common.{◌≡◌, ℕ, ◌+◌, ◌-◌, ◌*◌, ◌/◌, ◌≤◌, ◌<◌, Bool, true, false, List, [], ◌++◌, length, Option, Some, None, refl, sym, ap, ◌∙◌, arith, append_assoc, append-nil, length-append, subst, All, if◌then◌else◌}
 use Rattle.std.proofs.lemmas.Bool.{le-ltb, leb-false}
 use Rattle.std.proofs.lemmas.List.Elements.{All-nil}
-use Rattle.std.specs.Prelude.{nat_lt, nat_le}
+use Rattle.std.specs.Prelude.{nat_le}
 use Rattle.hot_units.specs.Limits.{max_header_bytes, max_bodies, max_row_bytes}
 use Rattle.sdf_header.specs.Layouts.{LayoutValue, IsLayout}
 use Rattle.sdf_header.specs.declared.header_fault.HeaderFault.TheVariants.{NoMagic, TooLong}
-use Rattle.sdf_header.specs.Verdict.{verdict}
-use Rattle.sdf_header.specs.Extent.{Extent, Faulty, Ends, Open, extent, extent_from, agrees, magic, ending}
+use Rattle.sdf_header.specs.Extent.{Faulty, Ends, Open, extent, extent_from, agrees, magic, ending}
 use Rattle.sdf_header.proofs.Known.{within}
 use Rattle.sdf_rows.specs.Columns.{Is64Bits}
 use Rattle.sdf_rows.specs.Rows as rows
-use Rattle.sdf_rows.specs.Reading.{RowsValue, reader_from, IsBehind}
+use Rattle.sdf_rows.specs.Reading.{RowsValue, reader_from}
 use Rattle.sdf_rows.proofs.Steps.{counted_below}
 use Rattle.hot_units.specs.Values.{CubeValue}
 use Rattle.body_set.specs.Sets.{SetValue, with_rows}

@@ -1,11 +1,10 @@
 -- What a reader of a body file keeps of the bytes that it was given.
-use Rattle.std.specs.Prelude.{◌≡◌, ℕ, ◌+◌, ◌-◌, ◌*◌, ◌≤◌, ◌<◌, Bool, true, false, List, [], ◌∷◌, ◌++◌, length, None, Some, Option, Result, Ok, Err, MatchResult, All, sum_by}
+use Rattle.std.specs.Prelude.{◌≡◌, ℕ, ◌+◌, ◌-◌, ◌*◌, ◌≤◌, ◌<◌, Bool, true, false, List, ◌++◌, length, None, Some, Option, Result, Ok, Err, All, sum_by}
 use Rattle.sdf_header.specs.Layouts.{LayoutValue, IsLayout}
 use Rattle.sdf_header.specs.Extent.{Ends, Open, extent}
 use Rattle.sdf_header.specs.Verdict.{verdict}
 use Rattle.hot_units.specs.declared.raw_row.RawRow.{RawRow}
 use Rattle.sdf_rows.specs.Columns.{Is64Bits}
-use Rattle.sdf_rows.specs.Rows.{rows_from}
 use Rattle.sdf_rows.specs.Reading.{RowsValue, IsBehind}
 use Rattle.hot_io.specs.Reading.{Reading, ended, taken, has_ended, has_failed}
 use Rattle.body_set.specs.Sets.{SetValue, with_row}

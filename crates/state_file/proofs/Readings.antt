@@ -15,7 +15,7 @@ use Rattle.sdf_header.specs.declared.layout.Col.{Col}
 use Rattle.sdf_header.specs.Types.{whole_bytes}
 use Rattle.sdf_rows.specs.Columns.{whole_value, number_of, value_or}
 use Rattle.sdf_rows.specs.Rows.{rows, rows_in, row_at, row_number, first_rows}
-use Rattle.leap_frog.specs.Leap.{Moving, bodies_of}
+use Rattle.leap_frog.specs.Leap.{bodies_of}
 use Rattle.leap_frog.specs.States.{moving}
 use Rattle.leap_frog.proofs.States.{bodies-moving, length-moving}
 use Rattle.state_file.specs.Texts.{StateFile, FilesHaveStates, state_of_set, HasState, FitsIdent, IsSigned, is_unsigned, is_u64}

@@ -1,4 +1,4 @@
-use Rattle.std.proofs.Common.{◌≡◌, arith, rules}
+use Rattle.std.proofs.Common.{rules}
 use Rattle.std.proofs.lemmas.Result.{err_from_is_err_and}
 use Rattle.body_file.proofs.RowSteps.{SaysStep, stepped, step_kept, step_added, some_taken, row_stops, trailing_stops}
 use Rattle.body_file.proofs.rows.take_row.Goals as goal
