@@ -1,20 +1,19 @@
 -- Whole files that a source gave, one after another.
-use Rattle.std.proofs.Common.{◌≡◌, ℕ, suc, ◌+◌, ◌-◌, ◌*◌, ◌<◌, ◌≤◌, ◌⊎◌, inl, inr, true, false, List, [], ◌∷◌, ◌++◌, length, get_or, take, Option, Some, None, refl, sym, ap, ◌∙◌, arith, subst, length-append, map, Bor, rules}
+use Rattle.std.proofs.Common.{◌≡◌, ℕ, suc, ◌+◌, ◌<◌, ◌≤◌, inl, inr, true, false, List, [], ◌∷◌, ◌++◌, length, get_or, Option, Some, None, refl, sym, ap, ◌∙◌, arith, subst, length-append, map, Bor, rules}
 use Rattle.std.specs.Prelude.{sum_by, IsSome, slice_index_or}
 use Rattle.std.proofs.lemmas.Bool.{cases_lt}
 use Rattle.std.proofs.Math.ListN.{get_or-map}
 use Rattle.std.proofs.lemmas.List.{get_or_append_left, get_or_push}
 use Rattle.std.proofs.lemmas.List.Sums.{sum_by-append}
-use Rattle.hot_units.specs.Limits.{max_header_bytes, max_bodies, max_row_bytes, max_files}
+use Rattle.hot_units.specs.Limits.{max_bodies, max_files}
 use Rattle.hot_io.specs.declared.outside.Source as sources
-use Rattle.hot_io.specs.Reading.{Reading, unread, ended, taken, has_ended, has_failed, Stands, IsAll}
+use Rattle.hot_io.specs.Reading.{Reading, ended, taken, Stands, IsAll}
 use Rattle.body_set.specs.Sets.{SetValue}
-use Rattle.body_file.specs.declared.fault.FileFault.{FileFault}
 use Rattle.body_file.specs.declared.fault.FileError.{FileError}
 use Rattle.body_file.specs.declared.fault.FileError.TheVariants.{Broken, Refused, Memory}
-use Rattle.body_file.specs.Files.{fault_from, fault_of, set_of_files, FilesRead, all_read, IsPrompt, ReadsBodies, Stopped, stopped_at, taken_in_all, but_a_piece}
+use Rattle.body_file.specs.Files.{fault_from, fault_of, set_of_files, all_read, IsPrompt, ReadsBodies, Stopped, stopped_at, but_a_piece}
 use Rattle.body_file.specs.Sources.{AreAllowed, told_at, HasGiven, StandsBehind}
-use Rattle.body_file.specs.Reading.{count_of, AreBefore, IsSetBefore, HasFile, ReadsFile, StopsFile, IsPromptBehind, AreRead}
+use Rattle.body_file.specs.Reading.{count_of, AreBefore, ReadsFile, StopsFile, IsPromptBehind, AreRead}
 use Rattle.body_file.proofs.Readings.{nothing_undecided}
 use Rattle.body_file.proofs.Verdicts.{has_set}
 use Rattle.body_file.proofs.Lists.{good_push, set_push, so_far, decide}

@@ -1,10 +1,8 @@
 -- How a file ends, and what it holds.
-use Rattle.std.proofs.Common.{◌≡◌, ℕ, ◌+◌, ◌-◌, ◌*◌, ◌≤◌, ◌<◌, true, false, List, ◌++◌, length, drop, Option, Some, None, Result, Ok, Err, refl, sym, ap, ◌∙◌, arith, length-append, subst}
+use Rattle.std.proofs.Common.{◌≡◌, ℕ, ◌+◌, ◌-◌, true, false, List, ◌++◌, length, drop, Option, Some, None, Result, Ok, Err, sym, ap, ◌∙◌, arith, length-append}
 use Rattle.std.proofs.Math.Seq.{drop-append_seam}
-use Rattle.hot_units.specs.Limits.{max_header_bytes, max_bodies, max_row_bytes}
 use Rattle.sdf_header.specs.Layouts.{LayoutValue}
 use Rattle.sdf_header.specs.Verdict.{verdict}
-use Rattle.sdf_header.specs.declared.header_fault.HeaderFault.{HeaderFault}
 use Rattle.sdf_rows.specs.declared.raw_row.RowFault.{RowFault}
 use Rattle.sdf_rows.specs.Rows.{ending_from, rows_in}
 use Rattle.sdf_rows.specs.Reading.{RowsValue, IsBehind}
@@ -77,7 +75,7 @@ file_read before r set bytes n b ends =
     record {
       good = file_ended before r set bytes (Ok n) b ends;
       are = set_read before r set bytes b;
-      after = record { few = omega (arith, bodies, count, few); named = b.rows.named };
+      after = record { few = omega (arith, bodies, count, few); named = b.rows.named; slow = b.rows.slow };
       more = omega (arith, bodies);
       short = rw left (omega (arith, exact, head, size, sum));
     }

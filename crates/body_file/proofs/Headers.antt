@@ -1,22 +1,19 @@
 -- What a header decides.
-use Rattle.std.proofs.Common.{◌≡◌, ℕ, ◌+◌, ◌-◌, ◌≤◌, ◌<◌, Bool, true, false, List, [], ◌++◌, length, take, drop, Option, Some, None, Result, Ok, Err, refl, sym, ap, ◌∙◌, arith, append_assoc, append-nil, length-append}
+use Rattle.std.proofs.Common.{◌≡◌, ℕ, ◌-◌, ◌≤◌, Bool, true, false, List, [], ◌++◌, length, take, drop, Option, Some, None, Ok, Err, refl, sym, ap, ◌∙◌, arith, append_assoc, length-append}
 use Rattle.std.proofs.Math.Seq.{drop-append_seam}
 use Rattle.std.proofs.lemmas.List.{take-append-drop}
-use Rattle.hot_units.specs.Limits.{max_header_bytes}
 use Rattle.sdf_header.specs.declared.header_fault.HeaderFault.{HeaderFault}
-use Rattle.sdf_header.specs.declared.reader.Fed.{Fed}
 use Rattle.sdf_header.specs.declared.reader.Fed.TheVariants.{More, Ended}
 use Rattle.sdf_header.specs.declared.layout.HeaderError.{HeaderError}
 use Rattle.sdf_header.specs.declared.layout.HeaderError.TheVariants as header
 use Rattle.sdf_header.specs.Layouts.{LayoutValue}
 use Rattle.sdf_header.specs.Extent.{Extent, Faulty, Ends, Open, extent}
-use Rattle.sdf_header.specs.Verdict.{Gives, verdict, verdict_from}
-use Rattle.sdf_header.specs.Reading.{told, taken_of, Settled, ReadAlike}
-use Rattle.body_file.specs.declared.fault.FileFault.{FileFault}
+use Rattle.sdf_header.specs.Verdict.{Gives, verdict}
+use Rattle.sdf_header.specs.Reading.{told, Settled, ReadAlike}
 use Rattle.body_file.specs.declared.fault.FileFault.TheVariants.{Header, OtherCube}
 use Rattle.body_file.specs.declared.fault.FileError.TheVariants.{Refused}
 use Rattle.body_set.specs.Sets.{SetValue}
-use Rattle.body_file.specs.Faults.{differs, set_before, rows_fault, decided_behind, Decides, header_error}
+use Rattle.body_file.specs.Faults.{differs, set_before, rows_fault, decided_behind, header_error}
 use Rattle.body_file.specs.Reading.{IsWholeHeader, IsHeader, Stops}
 
 -- behind a header, whose cube is that of the files before, the rows decide

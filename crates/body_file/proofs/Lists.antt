@@ -1,11 +1,11 @@
 -- The faults and the bodies of files, one behind another.
-use Rattle.std.proofs.Common.{◌≡◌, ℕ, suc, ◌+◌, true, false, List, [], ◌∷◌, ◌++◌, length, Option, Some, None, Result, Ok, Err, refl, sym, ap, ◌∙◌, arith, append-nil, subst}
+use Rattle.std.proofs.Common.{◌≡◌, ℕ, suc, ◌+◌, true, false, List, [], ◌∷◌, ◌++◌, length, Option, Some, None, refl, sym, ap, ◌∙◌, arith}
 use Rattle.hot_io.specs.Reading.{Reading, unread, unopened, unfinished, ended, broken, taken, has_ended, has_failed}
 use Rattle.body_set.specs.Sets.{SetValue}
 use Rattle.body_file.specs.declared.fault.FileFault.{FileFault}
 use Rattle.body_file.specs.declared.fault.FoundFault.{FoundFault}
 use Rattle.body_file.specs.Faults.{decided_behind, Decides}
-use Rattle.body_file.specs.Files.{set_behind, set_of_files, found_in, first_found, fault_from, fault_of, fault_so_far, FilesRead, GoesOn, DecideFault}
+use Rattle.body_file.specs.Files.{set_behind, set_of_files, found_in, first_found, fault_from, fault_of, fault_so_far, GoesOn, DecideFault}
 use Rattle.body_file.proofs.Readings.{nothing_undecided}
 
 -- ---- lists

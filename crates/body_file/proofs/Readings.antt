@@ -1,8 +1,8 @@
 -- How far a file was read when the reading ended.
-use Rattle.std.proofs.Common.{◌≡◌, ℕ, ◌+◌, ◌-◌, ◌≤◌, ◌<◌, Bool, true, false, List, [], ◌++◌, length, Option, Some, None, Result, Ok, Err, MatchResult, take, drop, subst, refl, sym, ap, ◌∙◌, arith, append-nil, length-append}
+use Rattle.std.proofs.Common.{◌≡◌, ℕ, ◌-◌, ◌≤◌, ◌<◌, Bool, true, false, List, [], ◌++◌, length, Option, Some, None, Result, Ok, Err, MatchResult, take, drop, subst, refl, sym, ap, ◌∙◌, arith, append-nil, length-append}
 use Rattle.std.proofs.lemmas.List.{take-append-le, take-append-drop}
 use Rattle.std.specs.Io.KnownBytes.{Consumes, IsAtEnd}
-use Rattle.hot_io.specs.Reading.{Reading, unopened, ended, taken, has_ended, has_failed, IsAll}
+use Rattle.hot_io.specs.Reading.{Reading, ended, taken, has_ended, has_failed, IsAll}
 use Rattle.body_file.specs.declared.fault.FileError.{FileError}
 use Rattle.body_file.specs.declared.fault.FileError.TheVariants.{Broken, Refused, Memory}
 use Rattle.body_file.specs.declared.reader.BodyReader.{BodyReader}
@@ -12,7 +12,7 @@ use Rattle.body_file.specs.Files.{piece_bytes, but_a_piece}
 use Rattle.body_file.specs.Reading.{count_of, file_limit, HasTaken, HasFile, Stops, IsPromptBehind, ReadsFile, StopsFile, given_to}
 use Rattle.body_file.proofs.Headers.{nothing_open, open_undecided}
 use Rattle.body_file.proofs.Fronts.{front_undecided}
-use Rattle.body_file.proofs.Takings.{undecided, in_time, given_all}
+use Rattle.body_file.proofs.Takings.{in_time, given_all}
 
 -- what was taken up to the end is all
 pub all_taken : (file left end : Option (List ℕ)) (t : List ℕ) → Consumes file left t → Consumes left end [] → IsAtEnd end → IsAll file t

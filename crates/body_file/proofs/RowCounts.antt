@@ -1,5 +1,5 @@
 -- How many bytes rows without a fault have.
-use Rattle.std.proofs.Common.{◌≡◌, ℕ, suc, ◌+◌, ◌-◌, ◌*◌, ◌/◌, ◌^◌, ◌≤◌, ◌<◌, Bool, true, false, cond, List, [], ◌∷◌, ◌++◌, length, min, Option, Some, None, Result, Ok, Err, refl, sym, ap, ◌∙◌, arith, inl, inr, length-append}
+use Rattle.std.proofs.Common.{◌≡◌, ℕ, ◌+◌, ◌-◌, ◌*◌, ◌/◌, ◌≤◌, ◌<◌, Bool, true, false, cond, List, [], ◌∷◌, ◌++◌, length, min, Option, Some, None, Ok, Err, refl, sym, ap, ◌∙◌, arith, inl, inr, length-append}
 use Rattle.std.proofs.Math.Nat.{min-eq_left, mul-le-mul_right, mul-le-mul_left}
 use Rattle.std.proofs.lemmas.Nat.{le-div}
 use Rattle.std.proofs.lemmas.Bool.{ltb-true, ltb-false, leb-true, le-leb, cases_Bool}
@@ -10,22 +10,19 @@ use Rattle.sdf_header.specs.Layouts.{LayoutValue}
 use Rattle.hot_units.specs.declared.raw_row.RawRow.{RawRow}
 use Rattle.sdf_rows.specs.declared.raw_row.RowFault.{RowFault}
 use Rattle.sdf_rows.specs.declared.raw_row.RowFault.TheVariants.{Trailing}
-use Rattle.sdf_rows.specs.Rows.{rows_from, rows_in, row_number, at_most, is_cut_at, is_beyond_at, ending_from}
-use Rattle.sdf_rows.specs.Reading.{RowsValue, is_full_at, is_full, part_behind, reader_from, IsBehind}
+use Rattle.sdf_rows.specs.Rows.{rows_in, row_number, at_most, is_cut_at, is_beyond_at, ending_from}
+use Rattle.sdf_rows.specs.Reading.{is_full_at, is_full, reader_from}
 use Rattle.sdf_rows.proofs.Places.{rows_lie, rows_there, part_short}
 use Rattle.sdf_rows.proofs.Steps.{all_counted, part_length}
-use Rattle.sdf_rows.proofs.Ends.{full_exact}
 use Rattle.body_set.specs.declared.fault.PushError.{PushError}
 use Rattle.body_set.specs.declared.fault.PushError.TheVariants.{TooMany}
 use Rattle.hot_units.specs.Bodies.{mass_of}
 use Rattle.body_set.specs.Rows.{body_of_row}
 use Rattle.body_set.specs.Sets.{SetValue}
 use Rattle.body_set.proofs.FirstFault.{first_by_tests}
-use Rattle.body_file.specs.declared.fault.FileFault.{FileFault}
 use Rattle.body_file.specs.declared.fault.FileFault.TheVariants.{End}
-use Rattle.body_file.specs.Faults.{first_of, named, row_fault, first_refused, end_fault, rows_fault}
-use Rattle.body_file.specs.Reading.{IsAt}
-use Rattle.body_file.proofs.RowLists.{first_length, rows_behind, refused_behind}
+use Rattle.body_file.specs.Faults.{named, row_fault, first_refused, rows_fault}
+use Rattle.body_file.proofs.RowLists.{first_length, rows_behind}
 use Rattle.body_file.proofs.RowSteps.{none_of, rows_good, none_too_many}
 
 room_by : (t : Bool) (o : Option PushError) → named (cond t o (Some TooMany)) ≡ None → t ≡ true

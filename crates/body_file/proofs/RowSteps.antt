@@ -1,17 +1,16 @@
 -- One answer of the reader of rows, and what it does to the bodies.
-use Rattle.std.proofs.Common.{◌≡◌, ℕ, ◌+◌, ◌-◌, ◌*◌, ◌/◌, ◌≤◌, ◌<◌, ◌⊎◌, inl, inr, Bool, true, false, List, [], ◌∷◌, ◌++◌, length, take, drop, min, Option, Some, None, Result, Ok, Err, refl, sym, ap, ◌∙◌, arith, nat_lt, if◌then◌else◌, length-append, length-take, append_assoc, append-nil, subst, All}
-use Rattle.std.proofs.lemmas.List.{take-append-drop}
+use Rattle.std.proofs.Common.{◌≡◌, ℕ, ◌+◌, ◌*◌, ◌/◌, ◌≤◌, ◌⊎◌, inl, inr, Bool, true, false, List, [], ◌∷◌, ◌++◌, length, take, drop, ℤ, Option, Some, None, Result, Ok, Err, refl, sym, ap, ◌∙◌, arith, nat_lt, if◌then◌else◌, length-append, length-take, append_assoc, append-nil, subst, All}
 use Rattle.std.proofs.lemmas.Bool.{cases_Bool, ltb-true}
-use Rattle.hot_units.specs.Values.{CubeValue}
-use Rattle.sdf_header.specs.Layouts.{LayoutValue, IsLayout}
+use Rattle.std.proofs.lemmas.Int.{ints}
+use Rattle.sdf_header.specs.Layouts.{LayoutValue}
 use Rattle.hot_units.specs.declared.raw_row.RawRow.{RawRow}
 use Rattle.sdf_rows.specs.declared.raw_row.RowFault.{RowFault}
 use Rattle.sdf_rows.specs.declared.raw_row.RowFault.TheVariants.{Trailing}
 use Rattle.sdf_rows.specs.declared.raw_row.RowStep.{RowStep}
 use Rattle.std.proofs.lemmas.List.Elements.{All-push}
-use Rattle.sdf_rows.specs.Columns.{Is64Bits}
-use Rattle.sdf_rows.specs.Rows.{rows_from, ending_from, is_beyond_at}
-use Rattle.sdf_rows.specs.Reading.{RowsValue, IsBehind, is_full, wanted, answer_from, read_of, given_by, row_list}
+use Rattle.sdf_rows.specs.Columns.{Is64Bits, Are64Bits}
+use Rattle.sdf_rows.specs.Rows.{Has64Bits, rows_from, is_beyond_at}
+use Rattle.sdf_rows.specs.Reading.{RowsValue, IsBehind, is_full, wanted, answer_from, row_list}
 use Rattle.sdf_header.proofs.Known.{split_piece}
 use Rattle.sdf_rows.proofs.Places.{part_short, rows_lie}
 use Rattle.sdf_rows.proofs.Steps.{none_beyond, part_length, full_rows, all_beyond}
@@ -20,13 +19,14 @@ use Rattle.std.specs.Prelude.{MatchOption}
 use Rattle.std.specs.Result.{IsOkUnless}
 use Rattle.body_set.specs.declared.fault.PushError.{PushError}
 use Rattle.body_set.specs.declared.fault.PushError.TheVariants as push
-use Rattle.body_set.specs.Rows.{first_fault}
+use Rattle.body_set.specs.Rows.{first_fault, or_zero, velocity_of_row}
 use Rattle.body_set.specs.Sets.{SetValue, with_row, with_rows}
 use Rattle.body_file.specs.declared.fault.FileFault.{FileFault}
 use Rattle.body_file.specs.declared.fault.FileFault.TheVariants.{End}
 use Rattle.body_file.specs.declared.fault.FileError.{FileError}
 use Rattle.body_file.specs.declared.fault.FileError.TheVariants.{Broken, Refused, Memory}
-use Rattle.body_file.specs.Faults.{first_of, row_error, named, row_fault, first_refused, ended_by, end_fault, rows_fault}
+use Rattle.body_file.specs.Faults.{first_of, row_error, named, row_fault, ended_by, end_fault, rows_fault}
+use Rattle.body_file.specs.Files.{Is64BitVelocity}
 use Rattle.body_file.specs.Reading.{IsAt, PushesRow, StopsRows}
 use Rattle.body_file.proofs.RowLists.{refused_behind, refused_append, refused_push, rows_behind, rows_prefix, rows_one_more}
 
@@ -177,6 +177,7 @@ step_kept before l r r' set bytes piece step at s none =
           ∙ ap (λ (o : Option FileFault). first_of o end) (rows_good before l bytes at.good)
           ∙ within_step (length before.bodies) l bytes piece step.taken wide s.lacks s.few;
       named = at.named;
+      slow = at.slow;
     }
 
 -- the fault of the next row of a set
@@ -187,8 +188,17 @@ next_fault before set raws raw o e good f =
     ∙ sym (ap (λ (v : SetValue). row_fault v.cube v.bodies raw) e)
     ∙ f
 
+-- a column's number fits 64 bits, and so does 0 where there is none
+small_or_zero : (o : Option ℤ) → Are64Bits o → Is64Bits (or_zero o)
+small_or_zero None h = (omega (arith, ints), omega (arith, ints))
+small_or_zero (Some z) h = h
+
+-- the velocity of a row whose numbers fit 64 bits
+small_velocity : (raw : RawRow) → Has64Bits raw → Is64BitVelocity (velocity_of_row raw)
+small_velocity raw h = record { x = small_or_zero raw.vx h.vx; y = small_or_zero raw.vy h.vy; z = small_or_zero raw.vz h.vz }
+
 -- a step that ends a row, which was added
-pub step_added : (before : SetValue) (l : LayoutValue) (r r' : RowsValue) (set set' : SetValue) (bytes piece : List ℕ) (step : RowStep) (raw : RawRow) → IsAt before l r set bytes → Stepped before l r' bytes piece step → step.row ≡ Some raw → Is64Bits raw.ident → row_fault set.cube set.bodies raw ≡ None → set' ≡ with_row set raw → IsAt before l r' set' (bytes ++ take step.taken piece)
+pub step_added : (before : SetValue) (l : LayoutValue) (r r' : RowsValue) (set set' : SetValue) (bytes piece : List ℕ) (step : RowStep) (raw : RawRow) → IsAt before l r set bytes → Stepped before l r' bytes piece step → step.row ≡ Some raw → Has64Bits raw → row_fault set.cube set.bodies raw ≡ None → set' ≡ with_row set raw → IsAt before l r' set' (bytes ++ take step.taken piece)
 step_added before l r r' set set' bytes piece step raw at s given small good added =
     let old = rows_behind before l bytes in
     let end = end_fault (length before.bodies) false l (bytes ++ take step.taken piece) in
@@ -204,7 +214,8 @@ step_added before l r r' set set' bytes piece step raw at s given small good add
       good = ap (λ (a : List RawRow). first_of (refused_behind before a) end) grown
           ∙ ap (λ (o : Option FileFault). first_of o end) (next_fault before set old raw None at.bodies (rows_good before l bytes at.good) good)
           ∙ within_step (length before.bodies) l bytes piece step.taken wide s.lacks s.few;
-      named = subst (λ (v : SetValue). All Is64Bits v.idents) (sym added) (All-push Is64Bits set.idents raw.ident at.named small);
+      named = subst (λ (v : SetValue). All Is64Bits v.idents) (sym added) (All-push Is64Bits set.idents raw.ident at.named small.ident);
+      slow = subst (λ (v : SetValue). All Is64BitVelocity v.velocities) (sym added) (All-push Is64BitVelocity set.velocities (velocity_of_row raw) at.slow (small_velocity raw small));
     }
 
 -- a step that ends a row at fault

@@ -1,18 +1,16 @@
 -- What a reader of a body file was given.
-use Rattle.std.proofs.Common.{◌≡◌, ℕ, ◌+◌, ◌-◌, ◌*◌, ◌/◌, ◌≤◌, ◌<◌, Bool, true, false, List, [], ◌++◌, length, drop, Option, Some, None, Result, Ok, Err, refl, sym, ap, ◌∙◌, arith, append_assoc, append-nil, length-append, subst, All, if◌then◌else◌}
-use Rattle.std.proofs.Math.Seq.{drop-append_seam}
+use Rattle.std.proofs.Common.{◌≡◌, ℕ, ◌+◌, ◌-◌, ◌*◌, ◌/◌, ◌≤◌, ◌<◌, Bool, true, false, List, [], ◌++◌, length, Option, Some, None, refl, sym, ap, ◌∙◌, arith, append_assoc, append-nil, length-append, subst, All, if◌then◌else◌}
 use Rattle.std.proofs.lemmas.Bool.{le-ltb, leb-false}
 use Rattle.std.proofs.lemmas.List.Elements.{All-nil}
-use Rattle.std.specs.Prelude.{nat_lt, nat_le}
+use Rattle.std.specs.Prelude.{nat_le}
 use Rattle.hot_units.specs.Limits.{max_header_bytes, max_bodies, max_row_bytes}
 use Rattle.sdf_header.specs.Layouts.{LayoutValue, IsLayout}
 use Rattle.sdf_header.specs.declared.header_fault.HeaderFault.TheVariants.{NoMagic, TooLong}
-use Rattle.sdf_header.specs.Verdict.{verdict}
-use Rattle.sdf_header.specs.Extent.{Extent, Faulty, Ends, Open, extent, extent_from, agrees, magic, ending}
+use Rattle.sdf_header.specs.Extent.{Faulty, Ends, Open, extent, extent_from, agrees, magic, ending}
 use Rattle.sdf_header.proofs.Known.{within}
 use Rattle.sdf_rows.specs.Columns.{Is64Bits}
 use Rattle.sdf_rows.specs.Rows as rows
-use Rattle.sdf_rows.specs.Reading.{RowsValue, reader_from, IsBehind}
+use Rattle.sdf_rows.specs.Reading.{RowsValue, reader_from}
 use Rattle.sdf_rows.proofs.Steps.{counted_below}
 use Rattle.hot_units.specs.Values.{CubeValue}
 use Rattle.body_set.specs.Sets.{SetValue, with_rows}
@@ -21,6 +19,7 @@ use Rattle.body_file.specs.declared.fault.FileError.TheVariants.{Broken, Refused
 use Rattle.body_file.specs.declared.reader.BodyReader.{BodyReader}
 use Rattle.body_file.specs.declared.reader.BodyReader.TheVariants as stage
 use Rattle.body_file.specs.Faults.{first_refused, differs, set_before, decided_behind}
+use Rattle.body_file.specs.Files.{Is64BitVelocity}
 use Rattle.body_file.specs.Reading.{IsSetBefore, AreBefore, count_of, file_limit, IsAt, StopsRows, IsWholeHeader, IsHeader, IsBehindHeader, HasTaken, Stops, given_to}
 use Rattle.body_file.proofs.Headers.{decided_by_rows, open_undecided}
 use Rattle.body_file.proofs.RowLists.{rows_behind, rows_none}
@@ -51,11 +50,12 @@ rows_begin before l r set old sound e f =
       bodies = f ∙ sym (rows_none before) ∙ ap (with_rows before) (sym none);
       good = rw (none, none_stated l.count l.width) refl;
       named = subst (λ (v : SetValue). All Is64Bits v.idents) (sym f) old.named;
+      slow = subst (λ (v : SetValue). All Is64BitVelocity v.velocities) (sym f) old.slow;
     }
 
 -- the set that the rows of a file follow stands as one before it
 pub begun_behind : (before : Option SetValue) (cube : CubeValue) → AreBefore before → IsSetBefore (set_before before cube)
-begun_behind None cube h = record { few = omega arith; named = All-nil Is64Bits }
+begun_behind None cube h = record { few = omega arith; named = All-nil Is64Bits; slow = All-nil Is64BitVelocity }
 begun_behind (Some set) cube h = h
 
 -- it has the bodies of the files before

@@ -1,14 +1,13 @@
 -- Files without a fault have bodies.
-use Rattle.std.proofs.Common.{◌≡◌, ℕ, suc, Bool, true, false, List, [], ◌∷◌, drop, Option, Some, None, Result, Ok, Err, refl, sym, ap, ◌∙◌, subst}
+use Rattle.std.proofs.Common.{◌≡◌, ℕ, suc, true, List, [], ◌∷◌, drop, Option, Some, None, Result, Ok, Err, refl, ap}
 use Rattle.sdf_header.specs.declared.header_fault.HeaderFault.{HeaderFault}
 use Rattle.sdf_header.specs.Layouts.{LayoutValue}
 use Rattle.sdf_header.specs.Extent.{Extent, Faulty, Ends, Open, extent}
 use Rattle.sdf_header.specs.Verdict.{verdict}
 use Rattle.body_set.specs.Sets.{SetValue}
-use Rattle.body_file.specs.declared.fault.FoundFault.{FoundFault}
 use Rattle.body_file.specs.declared.fault.FileFault.{FileFault}
 use Rattle.body_file.specs.Faults.{is_known, set_before, decided_behind}
-use Rattle.body_file.specs.Files.{with_file, set_by, set_behind, set_of_files, found_in, fault_from, fault_of, HasBodies}
+use Rattle.body_file.specs.Files.{with_file, set_by, set_behind, set_of_files, found_in, fault_from}
 use Rattle.body_file.specs.Laws as laws
 use Rattle.body_file.proofs.Lists.{none_found}
 

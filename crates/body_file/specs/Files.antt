@@ -1,10 +1,12 @@
 -- What a list of body files holds, and how far one is read.
 use Rattle.std.specs.Prelude.{◌≡◌, ℕ, suc, ◌+◌, ◌*◌, ◌-◌, ◌<◌, true, false, List, [], ◌∷◌, ◌++◌, length, take, drop, sum_by, Option, Some, None, Result, Ok, Err}
 use Rattle.hot_units.specs.Limits.{max_header_bytes, max_bodies, max_row_bytes, max_files}
+use Rattle.hot_units.specs.Values.{Vector}
 use Rattle.hot_io.specs.Reading.{Reading, unread, unopened, unfinished, ended, broken, taken, has_failed}
 use Rattle.sdf_header.specs.declared.header_fault.HeaderFault.{HeaderFault}
 use Rattle.sdf_header.specs.Layouts.{LayoutValue}
 use Rattle.sdf_header.specs.Verdict.{verdict}
+use Rattle.sdf_rows.specs.Columns.{Is64Bits}
 use Rattle.sdf_rows.specs.Rows.{rows_from}
 use Rattle.body_set.specs.Sets.{SetValue, with_rows}
 use Rattle.body_file.specs.declared.fault.FileFault.{FileFault}
@@ -35,6 +37,12 @@ unfoldable pub set_of_files : Option SetValue → List (List ℕ) → Option Set
 set_of_files before [] = before
 set_of_files before (file ∷ files) = set_of_files (set_behind before file) files
 
+-- each component of a velocity fits 64 bits, signed or unsigned
+pub record Is64BitVelocity (v : Vector) : Type 0 where
+  pub x : Is64Bits v.x
+  pub y : Is64Bits v.y
+  pub z : Is64Bits v.z
+
 -- ---- their faults
 
 -- the fault of the file of this number, where it has one
@@ -62,7 +70,7 @@ abbrev pub fault_so_far : List (List ℕ) → List ℕ → Option FoundFault
 fault_so_far whole front =
     first_found (fault_of whole) (found_in (suc (length whole)) (decided_behind (set_of_files None whole) false front))
 
--- the files have no fault, and these are their bodies, idents and weights, in their order
+-- the files have no fault, and these are their bodies, idents, weights and velocities, in their order
 pub record HasBodies (files : List (List ℕ)) (set : SetValue) : Type 0 where
   pub good : fault_of files ≡ None
   pub are : set_of_files None files ≡ Some set

@@ -1,5 +1,5 @@
 -- The law of files.
-use Rattle.std.specs.Prelude.{◌≡◌, ℕ, List, [], ◌∷◌, None}
+use Rattle.std.specs.Prelude.{◌≡◌, ℕ, List, ◌∷◌, None}
 use Rattle.body_set.specs.Sets.{SetValue}
 use Rattle.body_file.specs.Files.{fault_of, HasBodies}
 

@@ -1,11 +1,10 @@
 -- What a reader of a body file keeps of the bytes that it was given.
-use Rattle.std.specs.Prelude.{◌≡◌, ℕ, ◌+◌, ◌-◌, ◌*◌, ◌≤◌, ◌<◌, Bool, true, false, List, [], ◌∷◌, ◌++◌, length, None, Some, Option, Result, Ok, Err, MatchResult, All, sum_by}
+use Rattle.std.specs.Prelude.{◌≡◌, ℕ, ◌+◌, ◌-◌, ◌*◌, ◌≤◌, ◌<◌, Bool, true, false, List, ◌++◌, length, None, Some, Option, Result, Ok, Err, All, sum_by}
 use Rattle.sdf_header.specs.Layouts.{LayoutValue, IsLayout}
 use Rattle.sdf_header.specs.Extent.{Ends, Open, extent}
 use Rattle.sdf_header.specs.Verdict.{verdict}
 use Rattle.hot_units.specs.declared.raw_row.RawRow.{RawRow}
 use Rattle.sdf_rows.specs.Columns.{Is64Bits}
-use Rattle.sdf_rows.specs.Rows.{rows_from}
 use Rattle.sdf_rows.specs.Reading.{RowsValue, IsBehind}
 use Rattle.hot_io.specs.Reading.{Reading, ended, taken, has_ended, has_failed}
 use Rattle.body_set.specs.Sets.{SetValue, with_row}
@@ -15,14 +14,15 @@ use Rattle.body_file.specs.declared.reader.BodyReader.{BodyReader}
 use Rattle.body_file.specs.declared.reader.BodyReader.TheVariants as stage
 use Rattle.hot_units.specs.Limits.{max_bodies, max_header_bytes, max_row_bytes}
 use Rattle.body_file.specs.Faults.{row_fault, rows_fault, differs, set_before, decided_behind, Decides}
-use Rattle.body_file.specs.Files.{with_file, set_behind, set_of_files, fault_of, piece_bytes, but_a_piece}
+use Rattle.body_file.specs.Files.{with_file, set_behind, set_of_files, Is64BitVelocity, fault_of, piece_bytes, but_a_piece}
 use Rattle.hot_io.specs.declared.outside.Source as sources
 use Rattle.body_file.specs.Sources.{HasGiven}
 
--- what holds of the set of the files before: it is no larger than a set may be, and its idents fit 64 bits
+-- what holds of the set of the files before: it is no larger than a set may be, and its idents and velocities fit 64 bits
 pub record IsSetBefore (set : SetValue) : Type 0 where
   pub few : length set.bodies ≤ max_bodies
   pub named : All Is64Bits set.idents
+  pub slow : All Is64BitVelocity set.velocities
 
 -- so it stands with the files before, where there are any
 abbrev pub AreBefore : Option SetValue → Type 0
@@ -46,7 +46,7 @@ PushesRow old new raw (Err Memory) = Unit {0}
 PushesRow old new raw (Err Broken) = ⊥
 
 -- the reader of rows and the set were given these bytes behind a header of this layout and the rows of this set; they
--- decide no fault, and each ident fits 64 bits
+-- decide no fault, and each ident and velocity fits 64 bits
 pub record IsAt (before : SetValue) (l : LayoutValue) (r : RowsValue) (set : SetValue) (bytes : List ℕ) : Type 0 where
   pub layout : r.layout ≡ l
   pub first : r.first ≡ length before.bodies
@@ -56,6 +56,7 @@ pub record IsAt (before : SetValue) (l : LayoutValue) (r : RowsValue) (set : Set
   pub bodies : set ≡ with_file before l bytes
   pub good : rows_fault before false l bytes ≡ None
   pub named : All Is64Bits set.idents
+  pub slow : All Is64BitVelocity set.velocities
 
 -- why the rows stop at these bytes
 abbrev pub StopsRows : SetValue → LayoutValue → List ℕ → FileError → Type 0

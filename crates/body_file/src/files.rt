@@ -2,7 +2,8 @@
 ghost use Rattle.std.specs.Prelude.{◌≡◌, false, ◌+◌, ◌≤◌, All, IfOk, MatchResult, length, map};
 ghost use Rattle.hot_units.specs.Limits.{max_files};
 ghost use Rattle.sdf_rows.specs.Columns.{Is64Bits};
-ghost use Rattle.body_file.specs.Files.{FilesRead, IsPrompt, ReadsBodies, Stopped, stopped_at};
+ghost use Rattle.body_file.specs.Files.{FilesRead, Is64BitVelocity, IsPrompt, ReadsBodies};
+ghost use Rattle.body_file.specs.Files.{Stopped, stopped_at};
 ghost use Rattle.body_file.specs.Sources.{AreAllowed, StandsBehind};
 
 use crate::fault::{FileError, FoundFault, ReadError};
@@ -23,14 +24,16 @@ fn stop(error: FileError, file: usize) -> ReadError
 }
 
 /// The bodies of the files of these names, 1 to 16, which are read one after another, each to its
-/// end, as one list: with the ident and the work weight of each, in the order of the rows of all.
+/// end, as one list: with the ident, the work weight and the velocity of each, in the order of the
+/// rows of all.
 ///
 /// The files are of this project's own profile, which is only after the self-describing files (SDF)
 /// of the N-body codes: a header in words, and rows of numbers behind it. Places are in fine units,
 /// 2^29 to an edge of the cube that the headers name; all files name the same. There are at most
 /// 1,048,576 rows, a mass is 1 to 4,294,967,295 in the files' own unit, all mass is at most 2^40, a
 /// work weight is 0 to 2^32 - 1, and an ident fits 64 bits, signed or unsigned. Rows are numbered
-/// over all files, and a row without an ident has its number.
+/// over all files, and a row without an ident has its number. A velocity is that of the columns `vx`,
+/// `vy`, `vz`, each 0 where the file has no such column of whole numbers; it decides no fault.
 ///
 /// `Broken` comes exactly where `open` or a read fails. `Refused` comes with the first fault in the
 /// order of the files, and in each the first in its order: that of the header, another cube than
@@ -61,6 +64,7 @@ pub fn read_bodies<S: Source>(
     ensures files { S.file source.new ≡ S.file source.old }
     ensures names { S.allows source.new ≡ S.allows source.old }
     ensures named { IfOk result (λ set. All Is64Bits set.idents) }
+    ensures slow { IfOk result (λ set. All Is64BitVelocity set.velocities) }
 {
     let mut set = None;
     let mut count = 0;

@@ -1,9 +1,9 @@
 -- Rows that are added one by one.
 use Rattle.std.proofs.Common.{ℕ, suc, ℤ, ◌≡◌, ◌+◌, List, [], ◌∷◌, ◌++◌, length, refl, ap, sym, ◌∙◌, append_assoc, append-nil, arith}
 use Rattle.std.proofs.lemmas.List.{map-append}
-use Rattle.hot_units.specs.Values.{BodyValue, CubeValue}
+use Rattle.hot_units.specs.Values.{BodyValue, CubeValue, Vector}
 use Rattle.hot_units.specs.declared.raw_row.RawRow.{RawRow}
-use Rattle.body_set.specs.Rows.{body_of_row, weight_of_row}
+use Rattle.body_set.specs.Rows.{body_of_row, weight_of_row, velocity_of_row}
 use Rattle.body_set.specs.Sets.{SetValue, bodies_from, set_of_rows, with_row, with_rows, empty_set}
 use Rattle.body_set.specs.Laws as laws
 
@@ -20,18 +20,18 @@ bodies-append cube k (x ∷ raws) raw =
     let e : k + suc (length raws) ≡ suc k + length raws = omega arith in
     rw (e, bodies-append cube (suc k) raws raw) refl
 
-abbrev set_of : CubeValue → List BodyValue → List ℤ → List ℕ → SetValue
-set_of cube a c e = record { cube = cube; bodies = a; idents = c; weights = e }
+abbrev set_of : CubeValue → List BodyValue → List ℤ → List ℕ → List Vector → SetValue
+set_of cube a c e g = record { cube = cube; bodies = a; idents = c; weights = e; velocities = g }
 
-same_set : (cube : CubeValue) (a b : List BodyValue) (c d : List ℤ) (e f : List ℕ) → a ≡ b → c ≡ d → e ≡ f → set_of cube a c e ≡ set_of cube b d f
-same_set cube a b c d e f p q r = rw (p, q, r) refl
+same_set : (cube : CubeValue) (a b : List BodyValue) (c d : List ℤ) (e f : List ℕ) (g h : List Vector) → a ≡ b → c ≡ d → e ≡ f → g ≡ h → set_of cube a c e g ≡ set_of cube b d f h
+same_set cube a b c d e f g h p q r s = rw (p, q, r, s) refl
 
 one_more : (cube : CubeValue) (raws : List RawRow) (raw : RawRow) → with_row (set_of_rows cube raws) raw ≡ set_of_rows cube (raws ++ raw ∷ [])
 one_more cube raws raw =
     let e : length (bodies_from cube 0 raws) ≡ 0 + length raws = omega (arith, bodies-length cube 0 raws) in
     let a : bodies_from cube 0 raws ++ body_of_row cube (length (bodies_from cube 0 raws)) raw ∷ [] ≡ bodies_from cube 0 (raws ++ raw ∷ []) =
     rw (e, bodies-append cube 0 raws raw) refl in
-    same_set cube _ _ _ _ _ _ a (sym (map-append (λ r. r.ident) raws (raw ∷ []))) (sym (map-append weight_of_row raws (raw ∷ [])))
+    same_set cube _ _ _ _ _ _ _ _ a (sym (map-append (λ r. r.ident) raws (raw ∷ []))) (sym (map-append weight_of_row raws (raw ∷ []))) (sym (map-append velocity_of_row raws (raw ∷ [])))
 
 none : (cube : CubeValue) → set_of_rows cube [] ≡ empty_set cube
 unfolding bodies_from

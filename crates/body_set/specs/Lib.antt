@@ -1,3 +1,4 @@
 pub mod Rows
+pub mod Velocities
 pub mod Sets
 pub mod Laws

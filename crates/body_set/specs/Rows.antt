@@ -1,7 +1,7 @@
 -- What a row gives, and what may be wrong with it.
-use Rattle.std.specs.Prelude.{ℕ, ◌+◌, ◌*◌, ◌-◌, ◌^◌, ℤ, pos, ◌+ℤ◌, ◌-ℤ◌, nat_abs, int_lt, int_le, Bool, ◌&&◌, if◌then◌else◌, nat_lt, nat_le, List, [], ◌∷◌, ◌++◌, length, Option, slice_get}
+use Rattle.std.specs.Prelude.{ℕ, ◌+◌, ◌*◌, ◌-◌, ◌^◌, ℤ, pos, ◌+ℤ◌, ◌-ℤ◌, nat_abs, int_lt, int_le, Bool, ◌&&◌, if◌then◌else◌, nat_lt, nat_le, List, [], ◌∷◌, ◌++◌, length, Option, Some, None, slice_get}
 use Rattle.hot_units.specs.Limits.{fine_bits, max_bodies, max_body_mass, max_all_mass, max_work}
-use Rattle.hot_units.specs.Values.{BodyValue, CubeValue}
+use Rattle.hot_units.specs.Values.{BodyValue, CubeValue, Vector}
 use Rattle.hot_units.specs.Bodies.{mass_of}
 use Rattle.hot_units.specs.declared.cube.Axis.TheVariants.{X, Y, Z}
 use Rattle.hot_units.specs.declared.raw_row.RawRow.{RawRow}
@@ -33,6 +33,15 @@ body_of_row cube k raw = record {
 -- the work weight that a row gives
 abbrev pub weight_of_row : RawRow → ℕ
 weight_of_row raw = nat_abs raw.work
+
+-- the number of a column, or 0 where there is none
+abbrev pub or_zero : Option ℤ → ℤ
+or_zero None = pos 0
+or_zero (Some z) = z
+
+-- the velocity that a row gives: 0 on each axis for which its file has no column
+abbrev pub velocity_of_row : RawRow → Vector
+velocity_of_row raw = record { x = or_zero raw.vx; y = or_zero raw.vy; z = or_zero raw.vz }
 
 -- the fault, where the test fails
 abbrev pub unless : Bool → PushError → List PushError

@@ -1,21 +1,23 @@
 -- A set of bodies in file order, and the bodies in key order.
-use Rattle.std.specs.Prelude.{ℕ, suc, ℤ, List, [], ◌∷◌, ◌++◌, length, map}
-use Rattle.hot_units.specs.Values.{BodyValue, CubeValue}
+use Rattle.std.specs.Prelude.{ℕ, suc, ℤ, List, [], ◌∷◌, ◌++◌, length, map, replicate}
+use Rattle.hot_units.specs.Values.{BodyValue, CubeValue, Vector}
 use Rattle.hot_units.specs.Order.{ordered}
 use Rattle.hot_units.specs.declared.raw_row.RawRow.{RawRow}
-use Rattle.body_set.specs.Rows.{body_of_row, weight_of_row}
+use Rattle.body_set.specs.Rows.{body_of_row, weight_of_row, velocity_of_row}
+use Rattle.body_set.specs.Velocities.{no_velocity}
 use Rattle.key_order.specs.Ordered.{OrderedValue}
 
--- a cube, and the bodies in it with their idents and weights, in file order
+-- a cube, and the bodies in it with their idents, weights and velocities, in file order
 pub record SetValue : Type 0 where
   pub cube : CubeValue
   pub bodies : List BodyValue
   pub idents : List ℤ
   pub weights : List ℕ
+  pub velocities : List Vector
 
 -- the set without a row
 abbrev pub empty_set : CubeValue → SetValue
-empty_set cube = record { cube = cube; bodies = []; idents = []; weights = [] }
+empty_set cube = record { cube = cube; bodies = []; idents = []; weights = []; velocities = [] }
 
 -- the set with one more row
 abbrev pub with_row : SetValue → RawRow → SetValue
@@ -23,6 +25,7 @@ with_row set raw = record set {
   bodies = set.bodies ++ body_of_row set.cube (length set.bodies) raw ∷ [];
   idents = set.idents ++ raw.ident ∷ [];
   weights = set.weights ++ weight_of_row raw ∷ [];
+  velocities = set.velocities ++ velocity_of_row raw ∷ [];
 }
 
 -- the set with more rows, added one by one
@@ -42,8 +45,13 @@ set_of_rows cube raws = record {
   bodies = bodies_from cube 0 raws;
   idents = map (λ raw. raw.ident) raws;
   weights = map weight_of_row raws;
+  velocities = map velocity_of_row raws;
 }
 
--- the bodies of a set in key order
+-- the set with all velocities 0
+abbrev pub at_rest : SetValue → SetValue
+at_rest set = record set { velocities = replicate (length set.velocities) no_velocity }
+
+-- the bodies of a set in key order, without their velocities
 abbrev pub in_key_order : SetValue → OrderedValue
 in_key_order set = record { bodies = ordered set.bodies; idents = set.idents; weights = set.weights }

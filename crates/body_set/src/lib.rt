@@ -6,8 +6,11 @@ mod fault;
 mod laws;
 mod row;
 mod set;
+mod velocities;
+mod velocity;
 
 pub use fault::PushError;
 pub use key_order::Ordered;
 pub use laws::rows_add_up;
 pub use set::BodySet;
+pub use velocities::Velocities;

@@ -4,7 +4,7 @@ ghost use Rattle.hot_units.specs.Limits.{fine_bits};
 
 use crate::samples::row_at;
 use body_set::{BodySet, PushError};
-use hot_units::{Axis, Cube};
+use hot_units::{Axis, Cube, RawRow};
 use std::process::Abort;
 
 fn cube_at(bits: u32, corner: i128) -> Cube
@@ -198,4 +198,32 @@ fn heaviest_set(rt: HostRuntime) {
     }
     answers_are(&rt, &mut set, &HEAVY);
     assert_eq!(rt; set.len(), 257);
+}
+
+/// A row with this place and these velocities.
+fn moving(place: [i128; 3], vx: Option<i128>, vy: Option<i128>, vz: Option<i128>) -> RawRow {
+    let mut row = row_at(place, 1, 0, 1);
+    row.vx = vx;
+    row.vy = vy;
+    row.vz = vz;
+    row
+}
+
+/// An axis without a column has 0, and a refused row leaves no velocity.
+#[test]
+fn velocities(rt: HostRuntime) {
+    let mut set = BodySet::new(rt.alloc(), cube_at(21, 0));
+    set.push(&moving([0, 0, 0], None, Some(5), Some(-7)))
+        .expect(&rt, "a good row");
+    assert!(rt;
+        set.push(&moving([0, 0, -1], Some(1), Some(1), Some(1)))
+            .is_err()
+    );
+    set.push(&moving([0, 0, 0], Some(i128::MIN), None, None))
+        .expect(&rt, "a good row");
+    assert!(rt; set.velocity(0) == Some([0, 5, -7]));
+    assert!(rt; set.velocity(1) == Some([i128::MIN, 0, 0]));
+    assert!(rt; set.velocity(2).is_none());
+    let ordered = set.order(rt.alloc()).expect(&rt, "memory");
+    assert_eq!(rt; ordered.bodies().len(), 2);
 }

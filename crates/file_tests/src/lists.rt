@@ -107,6 +107,68 @@ fn a_file_given_often(rt: HostRuntime) {
     assert!(rt; verdict_of(&answer) == Verdict::Broken);
 }
 
+/// Columns of velocities behind those of a body, of two rows.
+const MOVING: &[u8] =
+    b"int cube_bits = 21; struct {int32_t x, y, z, mass; int16_t vx, vy; int8_t vz;}[2];";
+
+/// The first with the velocity 1, -2, 3, and the second with 0.
+const MOVED: &[u8] = b"\0\0\0\0\0\0\0\0\0\0\0\0\x01\0\0\0\x01\0\xfe\xff\x03\
+    \x04\0\0\0\0\0\0\0\0\0\0\0\x03\0\0\0\0\0\0\0\0";
+
+/// A velocity in floating point on x, none on y, and the greatest whole number on z.
+const PARTLY: &[u8] =
+    b"int cube_bits = 21; struct {int32_t x, y, z, mass; float vx; uint64_t vz;}[1];";
+
+const PART: &[u8] = b"\0\0\0\0\0\0\0\0\0\0\0\0\x01\0\0\0\0\0\x80\x3f\
+    \xff\xff\xff\xff\xff\xff\xff\xff";
+
+const STILL: [i128; 3] = [0, 0, 0];
+
+const FAST: [i128; 3] = [1, -2, 3];
+
+const PART_FAST: [i128; 3] = [0, 0, 18_446_744_073_709_551_615];
+
+/// The rows of the list have these velocities, until they are taken.
+fn velocities_are(
+    rt: &impl Abort,
+    alloc: Global,
+    names: &[&str],
+    a: &[u8],
+    b: &[u8],
+    want: &[[i128; 3]],
+) {
+    for piece in PIECES {
+        let mut set = read(rt, alloc, names, a, b, piece, None).expect(rt, "bodies");
+        assert_eq!(rt; set.len(), want.len());
+        for (i, v) in want.iter().enumerate() {
+            assert!(rt; set.velocity(i) == Some(*v));
+            assert!(rt; set.body(i).expect(rt, "a row").row as usize == i);
+        }
+        assert!(rt; set.velocity(want.len()).is_none() && set.body(want.len()).is_none());
+        let taken = set.take_velocities(alloc);
+        for (i, v) in want.iter().enumerate() {
+            assert!(rt; taken.get(i) == *v && set.velocity(i) == Some(STILL));
+        }
+        assert!(rt; taken.get(want.len()) == STILL);
+    }
+}
+
+/// Rows of a file without columns of velocities have 0, wherever it stands in the list.
+#[test]
+fn velocities_of_a_list(rt: HostRuntime) {
+    let alloc = rt.alloc();
+    let a = file_of(&rt, alloc, ONE, FIRST);
+    let b = file_of(&rt, alloc, MOVING, MOVED);
+    let c = file_of(&rt, alloc, PARTLY, PART);
+    velocities_are(&rt, alloc, &["a", "a"], &a, b"", &[STILL, STILL]);
+    let between = [STILL, FAST, STILL, STILL];
+    velocities_are(&rt, alloc, &["a", "b", "a"], &a, &b, &between);
+    let around = [FAST, STILL, STILL, FAST, STILL];
+    velocities_are(&rt, alloc, &["b", "a", "b"], &a, &b, &around);
+    let behind = [FAST, STILL, PART_FAST];
+    velocities_are(&rt, alloc, &["b", "a"], &c, &b, &behind);
+}
+
 const OTHER_CUBE: Verdict = Verdict::Refused(2, FileFault::OtherCube);
 
 const CUT: Verdict = Verdict::Refused(2, FileFault::End(RowFault::Truncated { row: 1 }));

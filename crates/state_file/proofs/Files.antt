@@ -14,7 +14,7 @@ use Rattle.sdf_header.specs.Verdict.{verdict}
 use Rattle.sdf_header.specs.Layouts.{LayoutValue}
 use Rattle.hot_units.specs.declared.raw_row.RawRow.{RawRow}
 use Rattle.sdf_rows.specs.Rows.{rows, ending, is_cut_at, is_beyond_at}
-use Rattle.body_set.specs.Rows.{body_of_row, fine, is_inside, is_between}
+use Rattle.body_set.specs.Rows.{body_of_row, velocity_of_row, fine, is_inside, is_between}
 use Rattle.body_set.specs.Sets.{SetValue, bodies_from, set_of_rows, with_rows, empty_set}
 use Rattle.body_set.proofs.Adding.{rows_add_up}
 use Rattle.body_set.proofs.FirstFault.{first_by_tests}
@@ -24,7 +24,7 @@ use Rattle.body_file.specs.Files.{fault_from, fault_of, set_of_files, HasBodies}
 use Rattle.leap_frog.specs.Leap.{Moving, bodies_of}
 use Rattle.leap_frog.specs.States.{moving}
 use Rattle.state_file.specs.Headers.{state_header, state_layout}
-use Rattle.state_file.specs.Texts.{StateFile, state_text, rows_text, velocity_of_row, state_of_rows, HasState, CanBeWritten, FitsIdent, IsWritable, StatesReadBack}
+use Rattle.state_file.specs.Texts.{StateFile, state_text, rows_text, HasState, CanBeWritten, FitsIdent, IsWritable, StatesReadBack}
 use Rattle.state_file.proofs.StateHeader.{header_reads}
 use Rattle.state_file.proofs.Rows.{raw_of, raws_of, rows-back, length-rows}
 
@@ -177,6 +177,7 @@ states-read-back f c =
     record {
       layout = l;
       header = header-is f c;
+      set = set_of_rows l.cube (rows l (drop l.header_len (state_text f)));
       read = has_alone (state_text f) l (header-is f c) (good_alone (state_text f) (file-good f c));
       unsigned = unsigned-is f.unsigned (length f.state);
       state = rw (all-rows f c, bodies-are 0 f.state f.idents c.idents_too (λ i d lt. c.rows i d lt ∙ omega arith)) (state-is f.state f.idents c.idents_too);

@@ -16,8 +16,9 @@ use Rattle.sdf_header.specs.Types.{whole_bytes}
 use Rattle.sdf_rows.specs.Columns.{whole_value, number_of, value_or}
 use Rattle.sdf_rows.specs.Rows.{rows, rows_in, row_at, row_number, first_rows}
 use Rattle.leap_frog.specs.Leap.{bodies_of}
+use Rattle.leap_frog.specs.States.{moving}
 use Rattle.leap_frog.proofs.States.{bodies-moving, length-moving}
-use Rattle.state_file.specs.Texts.{StateFile, FilesHaveStates, state_of_rows, HasState, FitsIdent, IsSigned, is_unsigned, is_u64, velocity_of_row}
+use Rattle.state_file.specs.Texts.{StateFile, FilesHaveStates, state_of_set, HasState, FitsIdent, IsSigned, is_unsigned, is_u64}
 use Rattle.state_file.specs.Commands.{AreBytes}
 use Rattle.hot_units.specs.Limits.{max_bodies, max_body_mass, max_all_mass, max_work, fine_bits}
 use Rattle.hot_units.specs.Values.{BodyValue, CubeValue}
@@ -37,8 +38,8 @@ use Rattle.sdf_header.specs.Verdict.{or_fault, column, axes_of, optional_of, ord
 use Rattle.hot_units.specs.declared.raw_row.RawRow.{RawRow}
 use Rattle.body_set.specs.declared.fault.PushError.{PushError}
 use Rattle.body_set.specs.declared.fault.PushError.TheVariants.{TooMany, Outside, MassRange, WorkRange, MassSum}
-use Rattle.body_set.specs.Rows.{body_of_row, fine, is_inside, is_between}
-use Rattle.body_set.specs.Sets.{bodies_from}
+use Rattle.body_set.specs.Rows.{body_of_row, velocity_of_row, fine, is_inside, is_between}
+use Rattle.body_set.specs.Sets.{SetValue, bodies_from, set_of_rows}
 use Rattle.body_set.proofs.Adding.{bodies-length}
 use Rattle.body_set.proofs.FirstFault.{first_by_tests}
 use Rattle.body_set.proofs.Growing.{mass_more}
@@ -47,7 +48,7 @@ use Rattle.body_file.specs.declared.fault.FileFault.{FileFault}
 use Rattle.body_file.specs.declared.fault.FoundFault.{FoundFault}
 use Rattle.body_file.specs.Faults.{named, row_fault, first_refused, first_of, decided, decided_behind}
 use Rattle.body_file.specs.Files.{found_in, first_found, fault_from, fault_of}
-use Rattle.state_file.proofs.Files.{known_at_end, has_alone}
+use Rattle.state_file.proofs.Files.{known_at_end, bodies_alone, has_alone}
 
 -- where both hold the second does
 second-true : (a b : Bool) → (a && b) ≡ true → b ≡ true
@@ -387,6 +388,10 @@ no-refusal : (bytes : List ℕ) (f : StateFile) (h : HasState bytes f) → first
 unfolding decided_behind
 no-refusal bytes f h = (none-of _ _ (rw (known_at_end (extent bytes), h.header) at (alone bytes h.read.good))).0
 
+-- the set of a file that is alone in a list is that of its rows
+set-is : (bytes : List ℕ) (f : StateFile) (h : HasState bytes f) → h.set ≡ set_of_rows h.layout.cube (rows h.layout (drop h.layout.header_len bytes))
+set-is bytes f h = let x = h.read.are in let y = bodies_alone bytes h.layout h.header in cc
+
 -- what holds of the state of a file without a fault
 pub is-read : (bytes : List ℕ) (f : StateFile) → AreBytes bytes → HasState bytes f → IsRead f
 is-read bytes f b h =
@@ -398,8 +403,11 @@ is-read bytes f b h =
     let light = rows-light l.cube [] raws (omega arith) good in
     let long-bodies = bodies-length l.cube 0 raws in
     let long-speeds : length (map velocity_of_row raws) ≡ length (bodies_from l.cube 0 raws) = length-map raws velocity_of_row ∙ sym long-bodies in
-    let bodies : bodies_of f.state ≡ bodies_from l.cube 0 raws = ap bodies_of h.state ∙ bodies-moving (bodies_from l.cube 0 raws) (map velocity_of_row raws) long-speeds in
-    let long-state : length f.state ≡ length raws = ap length h.state ∙ (length-moving (bodies_from l.cube 0 raws) (map velocity_of_row raws) long-speeds ∙ long-bodies) in
+    let same = set-is bytes f h in
+    let state : f.state ≡ moving (bodies_from l.cube 0 raws) (map velocity_of_row raws) = h.state ∙ ap state_of_set same in
+    let idents-of : f.idents ≡ map ident_of raws = h.idents ∙ ap (λ (s : SetValue). s.idents) same in
+    let bodies : bodies_of f.state ≡ bodies_from l.cube 0 raws = ap bodies_of state ∙ bodies-moving (bodies_from l.cube 0 raws) (map velocity_of_row raws) long-speeds in
+    let long-state : length f.state ≡ length raws = ap length state ∙ (length-moving (bodies_from l.cube 0 raws) (map velocity_of_row raws) long-speeds ∙ long-bodies) in
     let P : List BodyValue → Type 0 = λ x. All IsBody x in
     let Q : List BodyValue → Type 0 = λ x. RowsCount x in
     let count = first-length l body (rows_in l (length body)) in
@@ -412,8 +420,8 @@ is-read bytes f b h =
       rows = subst Q (sym bodies) (λ i d lt. rows-count l.cube 0 raws i d lt ∙ omega arith);
       few = omega arith;
       light = subst T (sym bodies) (omega arith);
-      idents_too = ap length h.idents ∙ (length-map raws ident_of ∙ sym long-state);
-      named = subst S (sym h.unsigned) (subst R (sym h.idents) idents);
+      idents_too = ap length idents-of ∙ (length-map raws ident_of ∙ sym long-state);
+      named = subst S (sym h.unsigned) (subst R (sym idents-of) idents);
     }
 
 -- ---- a file without a fault has a state
@@ -422,9 +430,9 @@ is-read bytes f b h =
 by-verdict : (bytes : List ℕ) (v : Result LayoutValue HeaderFault) → verdict bytes ≡ v → fault_of (bytes ∷ []) ≡ None → (f : StateFile) × HasState bytes f
 unfolding decided_behind
 by-verdict bytes (Ok l) e h =
-    let raws = rows l (drop l.header_len bytes) in (
-      record { unsigned = is_unsigned l.ident; state = state_of_rows l.cube raws; idents = map (λ raw. raw.ident) raws },
-      record { layout = l; header = e; read = has_alone bytes l e h; unsigned = refl; state = refl; idents = refl },
+    let set = set_of_rows l.cube (rows l (drop l.header_len bytes)) in (
+      record { unsigned = is_unsigned l.ident; state = state_of_set set; idents = set.idents },
+      record { layout = l; header = e; set = set; read = has_alone bytes l e h; unsigned = refl; state = refl; idents = refl },
     )
 by-verdict bytes (Err f) e h = absurd (cc (rw (known_at_end (extent bytes), e) at (alone bytes h)))
 

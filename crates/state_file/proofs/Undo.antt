@@ -1,6 +1,6 @@
 -- Steps of a file, and the same steps back.
 use Rattle.std.proofs.Common.{◌≡◌, ℕ, zero, suc, ◌-◌, ◌^◌, ◌≤◌, Bool, true, List, [], ◌∷◌, ◌++◌, length, map, Ok, Err, ℤ, pos, negsuc, refl, sym, subst, ◌∙◌, ap, append_assoc, arith}
-use Rattle.std.specs.Prelude.{All, flat_map, drop, Result}
+use Rattle.std.specs.Prelude.{All, flat_map, Result}
 use Rattle.std.proofs.lemmas.Int.{ints}
 use Rattle.std.proofs.lemmas.List.{append-nil, length-map}
 use Rattle.std.proofs.lemmas.Bool.{leb-true}
@@ -13,11 +13,11 @@ use Rattle.hot_units.specs.Limits.{max_all_mass}
 use Rattle.hot_units.specs.Bodies.{IsBody, mass_of, mass_of_body}
 use Rattle.hot_units.specs.declared.cube.Axis.TheVariants.{X, Y, Z}
 use Rattle.sdf_header.specs.Layouts.{LayoutValue}
-use Rattle.sdf_rows.specs.Rows.{rows}
+use Rattle.body_set.specs.Sets.{SetValue}
 use Rattle.leap_frog.specs.Leap.{Moving, ForceLaw, Leaver, Stop, bodies_of, unless, kicked_by, kicked, drifted, leaving, leavers, put, place_after, step, steps, steps_from, steps_back, IsPlaced}
 use Rattle.leap_frog.proofs.Undo.{steps-undo, append_nothing, unless-passed, parts, steps-is}
 use Rattle.leap_frog.proofs.Steps.{sound-one, same-rows, row_of}
-use Rattle.state_file.specs.Texts.{StateFile, HasState, CanBeWritten, IsSigned, IsWritable, state_text, state_of_rows, is_unsigned}
+use Rattle.state_file.specs.Texts.{StateFile, HasState, CanBeWritten, IsSigned, IsWritable, state_text, state_of_set, is_unsigned}
 use Rattle.state_file.specs.Commands.{is_signed, past_63, if_none_past, with_state, file_after, FilesUndo}
 use Rattle.state_file.proofs.Files.{states-read-back}
 use Rattle.state_file.proofs.Readings.{IsRead, is-read}
@@ -35,14 +35,18 @@ same-file f g u s i =
 same-layout : (bytes : List ℕ) (f g : StateFile) (a : HasState bytes f) (b : HasState bytes g) → a.layout ≡ b.layout
 same-layout bytes f g a b = let x = a.header in let y = b.header in cc
 
+-- one text has one set
+same-set : (bytes : List ℕ) (f g : StateFile) (a : HasState bytes f) (b : HasState bytes g) → a.set ≡ b.set
+same-set bytes f g a b = let x = a.read.are in let y = b.read.are in cc
+
 -- one text has one state
 pub one-state : (bytes : List ℕ) (f g : StateFile) → HasState bytes f → HasState bytes g → f ≡ g
 one-state bytes f g a b =
-    let same = same-layout bytes f g a b in
+    let same = same-set bytes f g a b in
     same-file f g
-    (a.unsigned ∙ (ap (λ (l : LayoutValue). is_unsigned l.ident) same ∙ sym b.unsigned))
-    (a.state ∙ (ap (λ (l : LayoutValue). state_of_rows l.cube (rows l (drop l.header_len bytes))) same ∙ sym b.state))
-    (a.idents ∙ (ap (λ (l : LayoutValue). map (λ raw. raw.ident) (rows l (drop l.header_len bytes))) same ∙ sym b.idents))
+    (a.unsigned ∙ (ap (λ (l : LayoutValue). is_unsigned l.ident) (same-layout bytes f g a b) ∙ sym b.unsigned))
+    (a.state ∙ (ap state_of_set same ∙ sym b.state))
+    (a.idents ∙ (ap (λ (s : SetValue). s.idents) same ∙ sym b.idents))
 
 -- ---- velocities that can be written
 

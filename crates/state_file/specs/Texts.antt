@@ -1,17 +1,14 @@
 -- The body file of a state, and what a body file holds.
-use Rattle.std.specs.Prelude.{◌≡◌, ℕ, suc, ◌-◌, ◌^◌, ◌≤◌, ℤ, pos, negsuc, ◌≤ℤ◌, Bool, true, false, List, [], ◌∷◌, ◌++◌, length, map, drop, All, Option, Some, None, Ok}
+use Rattle.std.specs.Prelude.{◌≡◌, ℕ, suc, ◌-◌, ◌^◌, ◌≤◌, ℤ, pos, negsuc, ◌≤ℤ◌, Bool, true, false, List, [], ◌∷◌, ◌++◌, length, All, Option, Some, None, Ok}
 use Rattle.byteorder.specs.Endian.{little_bytes}
 use Rattle.hot_units.specs.Limits.{max_bodies, max_all_mass}
-use Rattle.hot_units.specs.Values.{CubeValue, Vector}
 use Rattle.hot_units.specs.Bodies.{mass_of, RowsCount, IsBody}
 use Rattle.sdf_header.specs.declared.kind.Whole.{Whole}
 use Rattle.sdf_header.specs.declared.kind.Whole.TheVariants as wholes
 use Rattle.sdf_header.specs.declared.layout.Col.{Col}
 use Rattle.sdf_header.specs.Layouts.{LayoutValue}
 use Rattle.sdf_header.specs.Verdict.{verdict}
-use Rattle.hot_units.specs.declared.raw_row.RawRow.{RawRow}
-use Rattle.sdf_rows.specs.Rows.{rows}
-use Rattle.body_set.specs.Sets.{set_of_rows}
+use Rattle.body_set.specs.Sets.{SetValue}
 use Rattle.body_file.specs.Files.{fault_of, HasBodies}
 use Rattle.leap_frog.specs.Leap.{Moving, bodies_of}
 use Rattle.leap_frog.specs.States.{moving}
@@ -49,18 +46,9 @@ state_text f = state_header f.unsigned (length f.state) ++ rows_text f.state f.i
 
 -- ---- what a body file holds
 
--- a velocity's number, or 0 where there is no column
-abbrev pub or_zero : Option ℤ → ℤ
-or_zero None = pos 0
-or_zero (Some z) = z
-
--- the velocity that a row gives
-abbrev pub velocity_of_row : RawRow → Vector
-velocity_of_row raw = record { x = or_zero raw.vx; y = or_zero raw.vy; z = or_zero raw.vz }
-
--- the state that rows give
-abbrev pub state_of_rows : CubeValue → List RawRow → List Moving
-state_of_rows cube raws = moving (set_of_rows cube raws).bodies (map velocity_of_row raws)
+-- the state of a set: each body with its velocity
+abbrev pub state_of_set : SetValue → List Moving
+state_of_set set = moving set.bodies set.velocities
 
 -- the type is the unsigned one of 8 bytes
 abbrev pub is_u64 : Whole → Bool
@@ -72,14 +60,16 @@ abbrev pub is_unsigned : Option Col → Bool
 is_unsigned None = false
 is_unsigned (Some col) = is_u64 col.kind
 
--- the file, alone in a list of files, has no fault, and its bodies, velocities and idents are those of this state
+-- the file, alone in a list of files, has no fault, and the bodies, velocities and idents that it gives are those of this
+-- state
 pub record HasState (bytes : List ℕ) (f : StateFile) : Type 0 where
   pub layout : LayoutValue
   pub header : verdict bytes ≡ Ok layout
-  pub read : HasBodies (bytes ∷ []) (set_of_rows layout.cube (rows layout (drop layout.header_len bytes)))
+  pub set : SetValue
+  pub read : HasBodies (bytes ∷ []) set
   pub unsigned : f.unsigned ≡ is_unsigned layout.ident
-  pub state : f.state ≡ state_of_rows layout.cube (rows layout (drop layout.header_len bytes))
-  pub idents : f.idents ≡ map (λ raw. raw.ident) (rows layout (drop layout.header_len bytes))
+  pub state : f.state ≡ state_of_set set
+  pub idents : f.idents ≡ set.idents
 
 -- ---- what can be written
 

@@ -1,6 +1,6 @@
-use Rattle.std.proofs.Common.{◌≡◌, ℕ, suc, ◌+◌, ◌<◌, [], List, ◌∷◌, ◌++◌, length, map, refl, sym, ap, ◌∙◌, subst, rules, arith, length-append}
+use Rattle.std.proofs.Common.{◌≡◌, suc, ◌+◌, ◌<◌, [], ◌∷◌, ◌++◌, length, map, refl, subst, arith, length-append}
 use Rattle.body_file.specs.Reading.{AreRead}
-use Rattle.body_file.specs.Files.{all_read, stopped_at}
+use Rattle.body_file.specs.Files.{all_read}
 use Rattle.body_file.proofs.Batches.{none_read, one_more, stands_at, stands_all, prompt_at, prompt_all, stopped_there, reads_all, name_at, names_length, set_is_some, allowed_at}
 use Rattle.body_file.proofs.files.read_bodies.Goals as goal
 

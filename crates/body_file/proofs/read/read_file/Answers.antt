@@ -1,4 +1,4 @@
-use Rattle.std.proofs.Common.{◌≡◌, ◌++◌, ◌+◌, [], length, take, refl, arith, rules, length-take, length-append}
+use Rattle.std.proofs.Common.{◌++◌, [], take, refl, arith, rules, length-take}
 use Rattle.std.proofs.KnownBytes.{Consumes-kept, Consumes-trans}
 use Rattle.std.proofs.lemmas.Result.{err_from_is_err_and}
 use Rattle.hot_io.specs.Reading.{unopened, unfinished, ended, broken}

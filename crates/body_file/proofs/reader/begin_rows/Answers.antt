@@ -1,4 +1,4 @@
-use Rattle.std.proofs.Common.{◌≡◌, true, [], ◌++◌, ◌∙◌, append-nil, subst, refl, sym, ap}
+use Rattle.std.proofs.Common.{[], ◌∙◌, append-nil, refl, sym, ap}
 use Rattle.std.proofs.lemmas.Result.{err_from_is_err_and}
 use Rattle.sdf_header.specs.Layouts.{LayoutValue}
 use Rattle.body_file.specs.Faults.{differs, set_before}

@@ -1,4 +1,4 @@
-use Rattle.std.proofs.Common.{◌≡◌, MatchResult, false, subst}
+use Rattle.std.proofs.Common.{MatchResult, false, subst}
 use Rattle.body_file.specs.Reading.{HasTaken, Stops}
 use Rattle.body_file.proofs.Headers.{fed_fault, ended_within}
 use Rattle.body_file.proofs.Pieces.{two_pieces}

@@ -1,4 +1,4 @@
-use Rattle.std.proofs.Common.{◌≡◌, arith, rules}
+use Rattle.std.proofs.Common.{rules}
 use Rattle.std.proofs.lemmas.Result.{err_from_is_err_and}
 use Rattle.body_file.proofs.RowSteps.{SaysStep, stepped, step_kept, step_added, some_taken, row_stops, trailing_stops}
 use Rattle.body_file.proofs.rows.take_row.Goals as goal
@@ -40,4 +40,4 @@ pub returns-clause-step : goal.returns-clause-step
 returns-clause-step c = λ before l bytes at.
     let says : SaysStep c.args.rows.now c.feed.new.self c.args.piece.now c.in-Ok.step = record { answer = c.in-Ok.ensures.answer; after = c.in-Ok.ensures.after; rows = c.in-Ok.ensures.rows; layout = c.in-Ok.ensures.layout; first = c.in-Ok.ensures.first } in
     let pushed = c.in_ok-push_row.ensures in
-    step_added before l c.args.rows.now c.feed.new.self c.args.set.now c.push_row.new.set bytes c.args.piece.now c.in-Ok.step c.in-Some.raw at (stepped before l c.args.rows.now c.feed.new.self c.args.set.now bytes c.args.piece.now c.in-Ok.step at says) c.in-Some.is (rw c.in-Some.is at c.in-Ok.ensures.fits).ident pushed.0 pushed.1
+    step_added before l c.args.rows.now c.feed.new.self c.args.set.now c.push_row.new.set bytes c.args.piece.now c.in-Ok.step c.in-Some.raw at (stepped before l c.args.rows.now c.feed.new.self c.args.set.now bytes c.args.piece.now c.in-Ok.step at says) c.in-Some.is (rw c.in-Some.is at c.in-Ok.ensures.fits) pushed.0 pushed.1

@@ -1,4 +1,4 @@
-use Rattle.std.proofs.Common.{◌≡◌, [], ◌++◌, take, drop, length, arith, rules, refl, sym, ap, ◌∙◌, append-nil, append_assoc, subst}
+use Rattle.std.proofs.Common.{[], ◌++◌, take, refl, sym, ap, ◌∙◌, append-nil, append_assoc, subst}
 use Rattle.std.proofs.lemmas.Result.{err_from_is_err_and}
 use Rattle.body_file.specs.Reading.{IsAt, StopsRows}
 use Rattle.body_file.proofs.Pieces.{none_left, some_left, rest_shorter, goes_on}

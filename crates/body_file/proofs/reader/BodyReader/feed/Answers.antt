@@ -1,7 +1,7 @@
-use Rattle.std.proofs.Common.{◌≡◌, ◌++◌, subst, ap, sym}
+use Rattle.std.proofs.Common.{subst}
 use Rattle.std.proofs.lemmas.Result.{err_from_is_err_and}
 use Rattle.body_file.specs.Faults.{set_before}
-use Rattle.body_file.specs.Reading.{HasTaken, Stops}
+use Rattle.body_file.specs.Reading.{HasTaken}
 use Rattle.body_file.proofs.Takings.{rows_stop, rows_go_on}
 use Rattle.body_file.proofs.reader.BodyReader.feed.Goals as goal
 

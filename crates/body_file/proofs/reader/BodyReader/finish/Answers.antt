@@ -1,7 +1,7 @@
-use Rattle.std.proofs.Common.{◌≡◌, ◌∙◌, subst, ap}
-use Rattle.sdf_header.specs.Extent.{Open, extent}
+use Rattle.std.proofs.Common.{◌∙◌, subst, ap}
+use Rattle.sdf_header.specs.Extent.{extent}
 use Rattle.sdf_header.specs.Verdict.{Fails, verdict}
-use Rattle.body_file.specs.Reading.{HasTaken, Stops}
+use Rattle.body_file.specs.Reading.{HasTaken}
 use Rattle.body_file.proofs.Headers.{open_refused, open_stops}
 use Rattle.body_file.proofs.Endings.{file_refused, file_read}
 use Rattle.body_file.proofs.reader.BodyReader.finish.Goals as goal

@@ -1,4 +1,4 @@
-use Rattle.std.proofs.Common.{◌≡◌, ℕ, ◌+◌, ◌≤◌, ◌∙◌, ap, nat_abs, refl, rules, arith, length, None, SFits}
+use Rattle.std.proofs.Common.{◌≡◌, ℕ, ◌+◌, ◌≤◌, ◌∙◌, ◌∷◌, [], ap, nat_abs, refl, rules, arith, length, length-append, None, SFits}
 use Rattle.std.specs.Int.{w128}
 use Rattle.std.proofs.lemmas.Int.{to_z-of_z}
 use Rattle.hot_units.specs.Limits.{max_all_mass}
@@ -37,8 +37,8 @@ invariant_of-self-2 c =
     let light : mass_of c.self.inside.bodies.items + mass_in c.in_ok-body.body ≤ max_all_mass = omega (arith, light_of_none cube row before raw good.0, mass_is, c.self.invariant.1) in
     let fits : SFits w128 raw.ident = search rules in
     let idents = rw (to_z-of_z w128 raw.ident fits) at c.in_ok-append.ensures.idents in
-    rw (c.in_ok-append.ensures.bodies, idents, c.in_ok-append.ensures.weights)
-    (grown_set c.self.inside.bodies.items c.self.inside.idents.items c.self.inside.weights.items c.in_ok-body.body raw.ident c.in_ok-body.weight c.self.invariant.0 c.in_ok-body.ensures.body (row_is ∙ length_is) (omega (arith, few, length_is)) light, omega (arith, mass_more c.self.inside.bodies.items c.in_ok-body.body, c.self.invariant.1, c.from.ensures, ap mass_in c.body.view_is))
+    rw (c.in_ok-append.ensures.bodies, idents, c.in_ok-append.ensures.weights, c.in_ok-append.ensures.velocities)
+    (grown_set c.self.inside.bodies.items c.self.inside.idents.items c.self.inside.weights.items c.in_ok-body.body raw.ident c.in_ok-body.weight c.self.invariant.0 c.in_ok-body.ensures.body (row_is ∙ length_is) (omega (arith, few, length_is)) light, omega (arith, mass_more c.self.inside.bodies.items c.in_ok-body.body, c.self.invariant.1, c.from.ensures, ap mass_in c.body.view_is), omega (arith, length-append c.self.inside.bodies.items (c.in_ok-body.body ∷ []), length-append c.self.inside.velocities (c.of_row.result ∷ []), c.self.invariant.2))
 
 -- a row that was added has no fault
 pub returns-clause-first_fault : goal.returns-clause-first_fault
@@ -65,4 +65,4 @@ returns-clause-pushed c =
     let weight_is : c.in_ok-body.weight ≡ weight_of_row raw = ap weight_in good.1 in
     let fits : SFits w128 raw.ident = search rules in
     let idents = rw (to_z-of_z w128 raw.ident fits) at c.in_ok-append.ensures.idents in
-    rw (← c.self.view_is, ← length_is, c.in_ok-append.ensures.bodies, idents, c.in_ok-append.ensures.weights, body_is, weight_is) refl
+    rw (← c.self.view_is, ← length_is, c.in_ok-append.ensures.bodies, idents, c.in_ok-append.ensures.weights, c.in_ok-append.ensures.velocities, c.of_row.ensures, body_is, weight_is) refl
