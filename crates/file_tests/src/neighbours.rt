@@ -38,7 +38,15 @@ fn worked_neighbours(rt: HostRuntime) {
     let alloc = rt.alloc();
     text_is(&rt, alloc, &[], &[], b"# hot near 1\n# end 0\n", 1, 99);
     let alone = [list_of(&rt, alloc, &[])];
-    text_is(&rt, alloc, &[7], &alone, b"# hot near 1\n7 0\n# end 1\n", 3, 99);
+    text_is(
+        &rt,
+        alloc,
+        &[7],
+        &alone,
+        b"# hot near 1\n7 0\n# end 1\n",
+        3,
+        99,
+    );
     let wide = [-9223372036854775808, 18446744073709551615];
     let lists = [
         list_of(&rt, alloc, &[0, 7, 4294967294]),
