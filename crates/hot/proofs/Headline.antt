@@ -1,5 +1,5 @@
 -- What a run that came to its end has asked for.
-use Rattle.std.proofs.Common.{ℕ, ◌≡◌, ◌≤◌, ◌+◌, Bool, true, List, [], ◌∷◌, Contains, ◌⊎◌, ◌↔◌, Some, refl, ap, sym, ◌∙◌, subst, inl, inr, arith}
+use Rattle.std.proofs.Common.{ℕ, ◌≡◌, ◌≤◌, ◌+◌, List, [], ◌∷◌, Contains, ◌⊎◌, ◌↔◌, Some, refl, ap, sym, ◌∙◌, subst, inl, inr, arith}
 use Rattle.rank_model.specs.Needs.{Needs, needed}
 use Rattle.rank_model.proofs.Counts.{needed-are}
 use Rattle.cell_mail.specs.declared.note.Note.{Note}

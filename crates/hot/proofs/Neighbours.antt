@@ -1,11 +1,10 @@
 -- What a walk over ranks gives of a run by a radius.
-use Rattle.std.proofs.Common.{ℕ, ◌≡◌, Bool, List, [], ◌∷◌, ◌++◌, length, map, filter, sum_by, eqb, cond, All, refl, ap, sym, ◌∙◌, subst}
+use Rattle.std.proofs.Common.{ℕ, ◌≡◌, Bool, List, [], ◌∷◌, ◌++◌, length, map, filter, eqb, cond, ap, sym, ◌∙◌, subst}
 use Rattle.std.proofs.lemmas.List.{length-map, map-append}
 use Rattle.std.proofs.lemmas.Simd.{map-map}
-use Rattle.std.proofs.lemmas.List.Elements.{All-contains}
 use Rattle.hot_units.specs.Values.{BodyValue}
 use Rattle.hot_units.specs.Order.{ordered}
-use Rattle.hot_units.specs.Bodies.{mass_of, RowsCount, IsBody}
+use Rattle.hot_units.specs.Bodies.{mass_of, RowsCount}
 use Rattle.hot_units.proofs.Members.{map_same}
 use Rattle.hot_units.proofs.Sorts.{sum_map}
 use Rattle.hot_model.proofs.Orders.{sum-ordered}

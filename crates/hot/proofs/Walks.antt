@@ -1,6 +1,6 @@
 -- What a walk over ranks gives of a run.
-use Rattle.std.proofs.Common.{ℕ, ◌≡◌, ◌≤◌, Bool, true, false, not, List, length, map, Option, Some, None, Result, Ok, Err, IsErr, IfOk, if◌then◌else◌, refl, ap, sym, ◌∙◌, subst, inl, inr}
-use Rattle.std.specs.Prelude.{◌⊎◌, ◌==◌}
+use Rattle.std.proofs.Common.{ℕ, ◌≡◌, Bool, true, false, not, List, length, map, Option, Some, Result, Ok, Err, IsErr, IfOk, refl, ap, sym, ◌∙◌, subst, inl, inr}
+use Rattle.std.specs.Prelude.{◌==◌}
 use Rattle.std.specs.declared.alloc.AllocError.{AllocError}
 use Rattle.std.proofs.lemmas.List.{length-map}
 use Rattle.hot_units.specs.Values.{BodyValue, CellValue, Acc3Value}
@@ -17,7 +17,7 @@ use Rattle.fixed_kernel.specs.Visit.{VisitValue}
 use Rattle.body_set.specs.Sets.{SetValue, in_key_order}
 use Rattle.key_order.specs.Ordered.{OrderedValue}
 use Rattle.wire.specs.declared.entry.Entry.{Entry}
-use Rattle.wire.specs.Desk.{Desk, rounds_in, letters_in}
+use Rattle.wire.specs.Desk.{Desk, rounds_in}
 use Rattle.defer_walk.specs.Standing.{VisitOf, meaning, fold_in}
 use Rattle.rank_set.specs.declared.found.Effort.{Effort}
 use Rattle.rank_set.specs.declared.sharing.Sharing.{Sharing}
@@ -27,9 +27,9 @@ use Rattle.rank_walk.specs.Marks.{HasBegun, HasRun, Leaves}
 use Rattle.run_report.specs.Report.{ReportValue, report_of, SampleValue, sum_of}
 use Rattle.hot_words.specs.Commands.{JobValue}
 use Rattle.rank_set.specs.Places.{ArePlaced}
-use Rattle.hot.specs.Runs.{WireUse, unused, used, RunValue, Wired, log_of, settings_of, gravity_run, world_in, RunLeaves, RunBegan}
+use Rattle.hot.specs.Runs.{WireUse, unused, used, RunValue, Wired, log_of, settings_of, gravity_run, RunLeaves, RunBegan}
 use Rattle.hot.specs.Texts.{forces_of, run_report, sample_of}
-use Rattle.hot.specs.Prepared.{world_by, gravity_of, IsWalkOf, WalkLeaves, walk_report, report_if, IsRunOf, ComputeLeaves}
+use Rattle.hot.specs.Prepared.{world_by, gravity_of, IsWalkOf, WalkLeaves, walk_report, IsRunOf, ComputeLeaves}
 use Rattle.hot.proofs.FileBodies.{forces_back}
 
 -- what a sharing of the run's numbers makes of a set is its world

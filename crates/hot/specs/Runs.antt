@@ -1,5 +1,5 @@
 -- Runs over ranks, and what they leave on the wire.
-use Rattle.std.specs.Prelude.{ℕ, ◌≡◌, ◌≤◌, ◌↔◌, ◌==◌, Bool, true, List, [], ◌∷◌, ◌++◌, length, Contains, Option, Some, None}
+use Rattle.std.specs.Prelude.{ℕ, ◌≡◌, ◌≤◌, ◌↔◌, ◌==◌, Bool, true, List, [], ◌∷◌, Contains, Option, Some, None}
 use Rattle.hot_units.specs.Values.{BodyValue, CellValue}
 use Rattle.hot_units.specs.declared.mail.Mail.{Mail}
 use Rattle.hot_units.specs.Order.{ordered}

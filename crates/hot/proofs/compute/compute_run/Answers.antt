@@ -1,4 +1,4 @@
-use Rattle.std.proofs.Common.{◌≡◌, ap, ◌∙◌, sym, subst, List}
+use Rattle.std.proofs.Common.{subst, List}
 use Rattle.hot_units.specs.Values.{BodyValue}
 use Rattle.hot_words.specs.Commands.{job_value}
 use Rattle.rank_set.specs.Places.{ArePlaced}

@@ -1,4 +1,4 @@
-use Rattle.std.proofs.Common.{ℕ, refl, sym, subst, length, map}
+use Rattle.std.proofs.Common.{ℕ, refl, sym, subst, map}
 use Rattle.std.proofs.lemmas.List.{length-map}
 use Rattle.hot_words.specs.Commands.{command_value}
 use Rattle.body_file.specs.Files.{ReadsBodies}

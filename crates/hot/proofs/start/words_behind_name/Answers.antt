@@ -1,4 +1,4 @@
-use Rattle.std.proofs.Common.{◌≡◌, ℕ, zero, suc, ◌<◌, List, [], ◌∷◌, ◌++◌, length, map, drop, arith, refl, sym, ap, ◌∙◌, subst, string_bytes}
+use Rattle.std.proofs.Common.{◌≡◌, ℕ, zero, suc, ◌<◌, List, [], ◌∷◌, ◌++◌, map, drop, arith, refl, sym, ap, ◌∙◌, string_bytes}
 use Rattle.std.specs.Prelude.{Option, Some, None, IsSome, ◌↔◌}
 use Rattle.std.specs.Option.{option_to_list}
 use Rattle.std.specs.Iterator.{Yields}
