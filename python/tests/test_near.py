@@ -12,7 +12,7 @@ from .test_run import TWO_BODIES
 def all_pairs(positions, radius):
     """The neighbours by a comparison of all pairs."""
     apart = positions[:, None, :] - positions[None, :, :]
-    near = (apart**2).sum(axis=2) <= radius**2
+    near = (apart * apart).sum(axis=2) <= radius * radius
     np.fill_diagonal(near, False)
     return [list(np.flatnonzero(row)) for row in near]
 
@@ -28,17 +28,21 @@ class Texts(unittest.TestCase):
         self.assertEqual(lists(read_neighbours(FIRST + b"# end 0\n")), [])
 
     def test_texts_that_are_none(self):
-        for text in (b"", FIRST, b"# hot forces 1\n0 0\n# end 1\n", FIRST + b"0 1\n# end 1\n", FIRST + b"0 0\n# end 2\n"):
+        for text in (b"", FIRST, b"# hot forces 1\n0 0\n# end 1\n"):
             with self.assertRaises(FormatError):
                 read_neighbours(text)
-        with self.assertRaises(FormatError):
-            read_neighbours(FIRST + b"0 0 3\n# end 1\n")
+        for lines in (b"0 1\n# end 1\n", b"0 0\n# end 2\n", b"0 0 3\n# end 1\n", b"0 0 x\n# end 1\n"):
+            with self.assertRaises(FormatError):
+                read_neighbours(FIRST + lines)
+        for lines in (b"0 1 1.5\n# end 1\n", b"0 1 1 1 1\n0\n# end 2\n", b"0 1 1\n# end 1\n"):
+            with self.assertRaises(FormatError):
+                read_neighbours(FIRST + lines)
 
 
 class Pairs(unittest.TestCase):
     def test_units(self):
         self.assertEqual(_unit(0.0), 1.0)
-        for extent in (1e-280, 0.3, 1.0, 2.0**29 - 2, 1e300):
+        for extent in (1e-140, 0.3, 1.0, 2.0**29 - 2, 1e300):
             self.assertLess(extent / _unit(extent), 2**29 - 1)
             self.assertGreaterEqual(extent / _unit(extent), 2**28 - 1)
 
@@ -56,8 +60,9 @@ class Radii(unittest.TestCase):
         for radius in (-1, 2**30 + 1, 1.0):
             with self.assertRaisesRegex(ValueError, "radius is"):
                 file_neighbours(TWO_BODIES, radius)
-        with self.assertRaisesRegex(ValueError, "farther apart"):
-            neighbours([[-1.7e308, 0, 0], [1.7e308, 0, 0]], 1.0)
+        for far in (1.7e308, 1e-150):
+            with self.assertRaisesRegex(ValueError, "apart"):
+                neighbours([[-far, 0, 0], [far, 0, 0]], 1.0)
 
     def test_no_bodies(self):
         found = neighbours(np.zeros((0, 3)), 1.0)
@@ -81,5 +86,10 @@ class Runs(unittest.TestCase):
     def test_a_grid_has_pairs_at_the_radius(self):
         axis = np.arange(5.0)
         positions = np.stack(np.meshgrid(axis, axis, axis), axis=-1).reshape(-1, 3)
-        for radius in (0.0, 1.0, 2.0**0.5, 3.0):
+        for radius in (0.0, 1.0, 2.0**0.5, 3.0**0.5, 3.0):
             self.assertEqual(lists(neighbours(positions, radius)), all_pairs(positions, radius))
+
+    def test_a_body_at_the_radius(self):
+        for x in (0.6388858474772539, 1e-130, 1e200):
+            self.assertEqual(lists(neighbours([[0, 0, 0], [x, 0, 0]], x)), [[1], [0]])
+        self.assertEqual(lists(neighbours([[0, 0, 0], [3, 0, 0]], np.int64(2**32))), [[1], [0]])

@@ -48,7 +48,7 @@ pub fn words_behind_name(alloc: Global, arguments: Args) -> Result<WordList, All
 }
 
 /// One call of the program, and the number that the process ends with: that of a status for which
-/// the whole promise of `hot_main` holds.
+/// the clause `answered` of `hot_main` holds, the whole promise.
 pub fn run_program<R: Threads + Sync, S: Source, O: Sink, E: Sink, M: Wire, G: Gate>(
     rt: &R,
     alloc: Global,
