@@ -1,5 +1,5 @@
-ghost use Rattle.std.specs.Prelude.{◌≡◌, ◌<◌, ◌≤◌, ◌^◌, List, length, MatchResult, IfOk};
-ghost use Rattle.hot_units.specs.Limits.{max_all_mass};
+ghost use Rattle.std.specs.Prelude.{◌≡◌, ◌≤◌, List, length, MatchResult, IfOk};
+ghost use Rattle.hot_units.specs.Limits.{max_bodies, max_all_mass};
 ghost use Rattle.hot_units.specs.Values.{BodyValue};
 ghost use Rattle.hot_units.specs.Bodies.{mass_of, RowsDiffer};
 ghost use Rattle.hot_model.specs.Trees.{Settings};
@@ -27,7 +27,8 @@ pub trait ForceEngine {
     ghost refuses: { Self → Self.Link → List BodyValue → Self → Self.Link → Type 0 };
 
     /// The force on each body of the slice, in its order, with the engine's numbers; each has seen
-    /// the mass of all bodies. A refusal is want of memory. No call changes the engine's numbers.
+    /// the mass of all bodies. There are at most 1,048,576 bodies, whose rows differ, with at most
+    /// 2^40 of mass together. A refusal is want of memory. No call changes the engine's numbers.
     fn forces(
         &mut self,
         alloc: Global,
@@ -36,7 +37,7 @@ pub trait ForceEngine {
     ) -> Result<Vec<Acc3>, AllocError>
         requires link_ready { is_ready self.old link.old }
         requires rows_differ { RowsDiffer bodies.now }
-        requires few { length bodies.now < 2 ^ 32 }
+        requires few { length bodies.now ≤ max_bodies }
         requires light { mass_of bodies.now ≤ max_all_mass }
         ensures settings_kept { settings self.new ≡ settings self.old }
         ensures forces { IfOk result (λ v. AreForces (settings self.old) bodies.now v.items) }

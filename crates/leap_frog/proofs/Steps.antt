@@ -5,7 +5,7 @@ use Rattle.std.proofs.lemmas.Int.{ints}
 use Rattle.std.proofs.lemmas.List.{length-map}
 use Rattle.std.proofs.lemmas.List.Sums.{sum_by-cons}
 use Rattle.std.proofs.lemmas.List.Elements.{All-nil, All-cons, All-head, All-tail, All-weaker}
-use Rattle.hot_units.specs.Limits.{fine_bits, max_all_mass}
+use Rattle.hot_units.specs.Limits.{fine_bits, max_bodies, max_all_mass}
 use Rattle.hot_units.specs.Values.{BodyValue, Vector, Acc3Value}
 use Rattle.hot_units.specs.Bodies.{IsBody, mass_of, mass_of_body, RowsCount, RowsDiffer}
 use Rattle.hot_model.specs.Kernel.{plus}
@@ -225,7 +225,7 @@ left-by s bs cs ds vs ws accs again Memory t view state c d w a forces stop = re
 -- the bodies of the second call
 pub record IsAsked (bodies : List BodyValue) : Type 0 where
   pub rows_differ : RowsDiffer bodies
-  pub few : length bodies < 2 ^ 32
+  pub few : length bodies ≤ max_bodies
   pub light : mass_of bodies ≤ max_all_mass
 
 -- the bodies behind the drift may be handed to the engine
