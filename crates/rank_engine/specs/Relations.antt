@@ -1,5 +1,5 @@
 -- What a call of the engine over ranks leaves of the engine and of the wire.
-use Rattle.std.specs.Prelude.{◌≡◌, ℕ, suc, ◌≤◌, true, eqb, if◌then◌else◌, List, [], ◌∷◌, length, map}
+use Rattle.std.specs.Prelude.{◌≡◌, ℕ, suc, ◌≤◌, true, eqb, if◌then◌else◌, List, [], ◌∷◌, length, map, replicate}
 use Rattle.hot_units.specs.declared.mail.Mail.{Mail}
 use Rattle.hot_units.specs.Values.{BodyValue}
 use Rattle.hot_units.specs.Order.{ordered}
@@ -23,22 +23,26 @@ pub record EngineValue : Type 0 where
 abbrev pub settings_by : VisitValue → ℕ → Settings
 settings_by v leaf = record { num = v.ratio.num; den = v.ratio.den; eps = v.eps; leaf = leaf; second = v.second }
 
+-- a body with another row
+abbrev pub with_row : ℕ → BodyValue → BodyValue
+with_row row b = record { x = b.x; y = b.y; z = b.z; mass = b.mass; row = row }
+
 -- the bodies, with their places from k on as their rows
 unfoldable pub numbered_from : ℕ → List BodyValue → List BodyValue
 numbered_from k [] = []
-numbered_from k (b ∷ bs) = record b { row = k } ∷ numbered_from (suc k) bs
+numbered_from k (b ∷ bs) = with_row k b ∷ numbered_from (suc k) bs
 
 -- the bodies, each with its place in the list as its row
 abbrev pub numbered : List BodyValue → List BodyValue
 numbered bodies = numbered_from 0 bodies
 
--- the weights by which the bodies are split: these, or 1 each where there are not as many as bodies
-abbrev pub weights_for : List ℕ → List BodyValue → List ℕ
-weights_for weights bodies = if eqb (length weights) (length bodies) then weights else map (λ _. 1) bodies
+-- the weights by which so many bodies are split: these, or 1 each where there are not as many
+abbrev pub weights_for : List ℕ → ℕ → List ℕ
+weights_for weights count = if eqb (length weights) count then weights else replicate count 1
 
 -- the world of a call: the bodies in key order, split by their weights over the ranks, with the leaf limit
 abbrev pub world_of : EngineValue → List BodyValue → World
-world_of e bodies = split_world (weight_in (weights_for e.weights bodies)) (ordered (numbered bodies)) e.ranks e.settings.leaf
+world_of e bodies = split_world (weight_in (weights_for e.weights (length bodies))) (ordered (numbered bodies)) e.ranks e.settings.leaf
 
 -- by place, how many terms the recursive walk of the body adds
 abbrev pub term_counts : Settings → List BodyValue → List ℕ

@@ -3,6 +3,8 @@
 #![tactic(auto)]
 
 mod engine;
+mod parts;
+mod sets;
 mod terms;
 
 pub use engine::RankEngine;
