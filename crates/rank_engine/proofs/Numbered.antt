@@ -1,18 +1,22 @@
 -- The rows of a list do not enter the forces.
-use Rattle.std.proofs.Common.{ℕ, zero, suc, ◌+◌, ◌*◌, ◌<◌, ◌≡◌, Bool, true, false, cond, eqb, leb, List, [], ◌∷◌, ◌++◌, length, get_or, filter, map, sum_by, sym, refl, ap, ◌∙◌, arith}
+use Rattle.std.proofs.Common.{ℕ, zero, suc, ◌+◌, ◌*◌, ◌<◌, ◌≡◌, Bool, true, false, cond, eqb, leb, List, [], ◌∷◌, ◌++◌, length, get_or, filter, map, sum_by, take, ℤ, ◌≤◌, sym, refl, ap, ◌∙◌, subst, inl, inr, arith}
 use Rattle.std.specs.Prelude.{All}
+use Rattle.std.proofs.lemmas.Bool.{cases_eq, eq-eqb, ne_eqb}
+use Rattle.std.proofs.lemmas.List.{length-take, length-replicate, take_more}
 use Rattle.std.proofs.lemmas.List.Sums.{sum_by-cons}
+use Rattle.hot_units.specs.Limits.{max_bodies, max_all_mass}
 use Rattle.hot_units.specs.Values.{BodyValue, CellValue, Vector}
 use Rattle.hot_units.specs.Keys.{contains, digits, child}
 use Rattle.hot_units.specs.Order.{ordered}
-use Rattle.hot_units.specs.Bodies.{mass_of, mass_of_body, RowsCount}
+use Rattle.hot_units.specs.Bodies.{mass_of, mass_of_body, RowsCount, IsBody}
 use Rattle.hot_model.specs.Kernel.{origin, plus, accepts}
 use Rattle.hot_model.specs.Forces.{whole}
 use Rattle.hot_model.specs.Trees.{inside, cell_record, at_cell, total, Settings, pull_far, pull_near, opens_of, force_in, force}
 use Rattle.hot_model.proofs.Parts.{sum_by-filter-cons}
 use Rattle.hot_model.proofs.Ties.{origin-plus}
 use Rattle.hot_model.proofs.Orders.{same_cell, force-ordered, sum-ordered}
-use Rattle.rank_engine.specs.Relations.{with_row, numbered, numbered_from}
+use Rattle.key_order.specs.Ordered.{IsSet}
+use Rattle.rank_engine.specs.Relations.{with_row, numbered, numbered_from, weights_for}
 
 -- a function of bodies that does not read rows
 abbrev NoRow : {X : Type 0} → (BodyValue → X) → Type 0
@@ -130,6 +134,13 @@ rows-do-not-count s bodies =
 
 -- ---- what holds of the numbered list
 
+-- there is a weight for each body
+weights-long : (given : List ℕ) (n : ℕ) → length (weights_for given n) ≡ n
+weights-long given n = elim (cases_eq (length given) n) [
+  | inl e ↦ rw (eq-eqb _ _ e) e
+  | inr d ↦ rw (ne_eqb _ _ d) (length-replicate n 1)
+]
+
 pub length-numbered : (k : ℕ) (xs : List BodyValue) → length (numbered_from k xs) ≡ length xs
 unfolding numbered_from
 length-numbered k [] = refl
@@ -143,7 +154,7 @@ numbered-at k (x ∷ xs) (suc i) d lt = numbered-at (suc k) xs i d (omega arith)
 
 -- each body has its place as its row
 pub numbered-rows : (xs : List BodyValue) → RowsCount (numbered xs)
-numbered-rows xs i d lt = numbered-at 0 xs i d lt
+numbered-rows xs i d lt = numbered-at 0 xs i d lt ∙ omega arith
 
 -- one body more behind the others
 pub numbered-more : (k : ℕ) (xs : List BodyValue) (y : BodyValue) → numbered_from k (xs ++ y ∷ []) ≡ numbered_from k xs ++ with_row (k + length xs) y ∷ []
@@ -152,3 +163,30 @@ numbered-more k [] y = let e : k + 0 ≡ k = omega arith in rw e refl
 numbered-more k (x ∷ xs) y =
     let e : suc k + length xs ≡ k + suc (length xs) = omega arith in
     ap (λ (ys : List BodyValue). with_row k x ∷ ys) (numbered-more (suc k) xs y ∙ ap (λ (n : ℕ). numbered_from (suc k) xs ++ with_row n y ∷ []) e)
+
+pub numbered-none : numbered [] ≡ []
+unfolding numbered_from
+numbered-none = refl
+
+-- the next body of a list behind those before it
+pub numbered-next : (xs ys zs : List BodyValue) (i : ℕ) (b c : BodyValue) → i < length xs → ys ≡ numbered (take i xs) → b ≡ get_or xs i b → c ≡ with_row i b → zs ≡ ys ++ c ∷ [] → zs ≡ numbered (take (i + 1) xs)
+numbered-next xs ys zs i b c lt e at row push =
+    let n : 0 + length (take i xs) ≡ i = omega (arith, length-take i xs) in
+    let last : c ≡ with_row (0 + length (take i xs)) b = row ∙ ap (λ (k : ℕ). with_row k b) (sym n) in
+    push ∙ ap (λ (l : List BodyValue). l ++ c ∷ []) e ∙ ap (λ (x : BodyValue). numbered (take i xs) ++ x ∷ []) last
+    ∙ sym (numbered-more 0 (take i xs) b)
+    ∙ ap (λ (x : BodyValue). numbered (take i xs ++ x ∷ [])) at
+    ∙ ap (λ (l : List BodyValue). numbered l) (sym (take_more xs i b lt))
+
+-- the numbered list of a set fits the order
+pub numbered-set : (bodies : List BodyValue) (idents : List ℤ) (weights given : List ℕ) → All IsBody (numbered bodies) → length bodies ≤ max_bodies → mass_of bodies ≤ max_all_mass → length idents ≡ length bodies → weights ≡ weights_for given (length bodies) → IsSet (numbered bodies) idents weights
+numbered-set bodies idents weights given sound few light i w =
+    let n = length-numbered 0 bodies in
+    record {
+      sound = sound;
+      rows = numbered-rows bodies;
+      few = omega (arith, n, few);
+      light = subst (λ (m : ℕ). m ≤ max_all_mass) (sym (mass-numbered 0 bodies)) light;
+      idents_too = i ∙ sym n;
+      weights_too = ap length w ∙ weights-long given (length bodies) ∙ sym n;
+    }

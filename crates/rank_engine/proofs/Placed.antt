@@ -1,5 +1,5 @@
 -- What was found for bodies in key order, place by place.
-use Rattle.std.proofs.Common.{ℕ, ◌≡◌, ◌<◌, ◌≤◌, ◌^◌, Bool, List, length, filter, map, get_or, true, refl, sym, ap, ◌∙◌, subst, arith, All}
+use Rattle.std.proofs.Common.{ℕ, ◌≡◌, ◌<◌, ◌≤◌, ◌^◌, Bool, List, [], ◌∷◌, length, filter, map, get_or, true, refl, sym, ap, ◌∙◌, subst, arith, All}
 use Rattle.std.proofs.lemmas.List.{length-map, get_or-map, same_lists}
 use Rattle.hot_units.specs.Limits.{max_bodies}
 use Rattle.hot_units.specs.Values.{BodyValue, Acc3Value}

@@ -1,10 +1,19 @@
-ghost use Rattle.std.specs.Prelude.{◌≡◌, ◌≤◌, []};
-ghost use Rattle.hot_units.specs.Limits.{max_ranks, max_leaf};
-ghost use Rattle.rank_engine.specs.Relations.{settings_by, AnswerLeaves, RefusalLeaves};
+ghost use Rattle.std.specs.Prelude.{◌≡◌, ◌≤◌, [], length, IfOk};
+ghost use Rattle.hot_units.specs.Limits.{max_bodies, max_all_mass, max_ranks, max_leaf};
+ghost use Rattle.hot_units.specs.Bodies.{mass_of};
+ghost use Rattle.hot_model.specs.Trees.{opens_of};
+ghost use Rattle.hot_model.specs.Forces.{AreForces};
+ghost use Rattle.rank_walk.specs.Marks.{Leaves};
+ghost use Rattle.rank_engine.specs.Relations.{settings_by, world_of, term_counts};
+ghost use Rattle.rank_engine.specs.Relations.{AnswerLeaves, RefusalLeaves};
 
+use crate::parts::{Answered, placed_parts};
+use crate::sets::set_of;
+use crate::terms::TermVisit;
 use fixed_kernel::ForceVisit;
 use hot_model::ForceEngine;
 use hot_units::{Acc3, Body, Mail};
+use rank_walk::{Sharing, walk_over_ranks};
 use std::alloc::{AllocError, Global};
 use std::marker::{Model, PhantomData};
 use std::thread::Threads;
@@ -79,6 +88,40 @@ impl<'a, R: Threads + Sync, M: Wire, G: Gate> RankEngine<'a, R, M, G> {
             wire: PhantomData,
         }
     }
+
+    /// How the walk of a call is shared out.
+    fn sharing(&self) -> Sharing
+        ensures ranks { result.ranks ≡ self.now.ranks }
+        ensures leaf { result.leaf ≡ self.now.settings.leaf }
+        ensures mail { result.mail ≡ self.now.mail }
+    {
+        Sharing {
+            ranks: self.ranks,
+            leaf: self.leaf,
+            mail: self.mail,
+        }
+    }
+
+    /// One walk of the bodies of a slice, split by the weights of the engine. The forces and the
+    /// numbers of terms stand at the places of their bodies.
+    fn walk(&self, alloc: Global, bodies: &[Body], wire: &mut M) -> Result<Answered, AllocError>
+        requires quiet { (M.desk wire.old).pending ≡ [] }
+        requires few { length bodies.now ≤ max_bodies }
+        requires light { mass_of bodies.now ≤ max_all_mass }
+        ensures forces { IfOk result (λ r.
+            AreForces self.now.settings bodies.now r.forces.items) }
+        ensures terms { IfOk result (λ r.
+            r.terms.items ≡ term_counts self.now.settings bodies.now) }
+        ensures left { Leaves M.desk (opens_of self.now.settings) (world_of self.now bodies.now)
+            self.now.mail wire.old result wire.new }
+        ensures eager { (M.desk wire.new).eager ≡ (M.desk wire.old).eager }
+    {
+        let set = set_of(alloc, bodies, &self.weights)?;
+        let visit = TermVisit::new(self.visit);
+        let sharing = self.sharing();
+        let found = walk_over_ranks(self.rt, alloc, &set, sharing, visit, wire, self.gate)?;
+        placed_parts(alloc, &set, &found.accs)
+    }
 }
 
 impl<'a, R: Threads + Sync, M: Wire, G: Gate> ForceEngine for RankEngine<'a, R, M, G> {
@@ -94,10 +137,12 @@ impl<'a, R: Threads + Sync, M: Wire, G: Gate> ForceEngine for RankEngine<'a, R, 
 
     fn forces(
         &mut self,
-        _alloc: Global,
-        _link: &mut M,
-        _bodies: &[Body],
+        alloc: Global,
+        link: &mut M,
+        bodies: &[Body],
     ) -> Result<Vec<Acc3>, AllocError> {
-        Err(AllocError)
+        let answered = self.walk(alloc, bodies, link)?;
+        self.weights = answered.terms;
+        Ok(answered.forces)
     }
 }
