@@ -130,7 +130,7 @@ pub rows-do-not-count : (s : Settings) (bodies : List BodyValue) →
     map (λ b. whole (mass_of (ordered (numbered bodies))) (force s (ordered (numbered bodies)) b)) (numbered bodies) ≡ map (λ b. whole (mass_of bodies) (force s bodies b)) bodies
 rows-do-not-count s bodies =
     map-numbered _ _ (λ b k. ap (λ (m : ℕ). whole m (force s (ordered (numbered bodies)) (with_row k b))) (mass-ordered (numbered bodies) ∙ mass-numbered 0 bodies)
-      ∙ ap (λ (v : Vector). whole (mass_of bodies) v) (one-force s bodies b k)) 0 bodies
+    ∙ ap (λ (v : Vector). whole (mass_of bodies) v) (one-force s bodies b k)) 0 bodies
 
 -- ---- what holds of the numbered list
 

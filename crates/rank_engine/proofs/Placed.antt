@@ -53,14 +53,14 @@ AreCounted s bodies accs = accs ≡ map (counted_force s (ordered (numbered bodi
 pub forces-back : (s : Settings) (bodies : List BodyValue) (accs : List TermValue) (placed : List Acc3Value) → AreCounted s bodies accs → ArePlaced (ordered (numbered bodies)) (map (λ a. a.forces) accs) placed → AreForces s bodies placed
 forces-back s bodies accs placed e are =
     placed_back (λ b. whole (mass_of (ordered (numbered bodies))) (force s (ordered (numbered bodies)) b)) (numbered bodies) (map (λ a. a.forces) accs) placed (numbered-rows bodies)
-      (ap (map (λ (a : TermValue). a.forces)) e ∙ map-map (λ (a : TermValue). a.forces) (counted_force s (ordered (numbered bodies))) (ordered (numbered bodies))) are
+    (ap (map (λ (a : TermValue). a.forces)) e ∙ map-map (λ (a : TermValue). a.forces) (counted_force s (ordered (numbered bodies))) (ordered (numbered bodies))) are
     ∙ rows-do-not-count s bodies
 
 -- the numbers of terms, by place
 pub terms-back : (s : Settings) (bodies : List BodyValue) (accs : List TermValue) (placed : List ℕ) → AreCounted s bodies accs → ArePlaced (ordered (numbered bodies)) (map (λ a. a.terms) accs) placed → placed ≡ term_counts s bodies
 terms-back s bodies accs placed e are =
     placed_back (term_count s (ordered (numbered bodies))) (numbered bodies) (map (λ a. a.terms) accs) placed (numbered-rows bodies)
-      (ap (map (λ (a : TermValue). a.terms)) e ∙ map-map (λ (a : TermValue). a.terms) (counted_force s (ordered (numbered bodies))) (ordered (numbered bodies))) are
+    (ap (map (λ (a : TermValue). a.terms)) e ∙ map-map (λ (a : TermValue). a.terms) (counted_force s (ordered (numbered bodies))) (ordered (numbered bodies))) are
     ∙ map_same _ _ (numbered bodies) (λ b h. terms-ordered (opens_of s b) s.leaf (numbered bodies) 21 1)
 
 -- a number of terms fits 32 bits

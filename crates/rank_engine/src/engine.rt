@@ -1,4 +1,4 @@
-ghost use Rattle.std.specs.Prelude.{◌≡◌, ◌≤◌, [], length, IfOk};
+ghost use Rattle.std.specs.Prelude.{◌≡◌, ◌≤◌, [], length, IfOk, MatchResult};
 ghost use Rattle.hot_units.specs.Limits.{max_bodies, max_all_mass, max_ranks, max_leaf};
 ghost use Rattle.hot_units.specs.Bodies.{mass_of};
 ghost use Rattle.hot_model.specs.Trees.{opens_of};
@@ -11,7 +11,6 @@ use crate::parts::{Answered, placed_parts};
 use crate::sets::set_of;
 use crate::terms::TermVisit;
 use fixed_kernel::ForceVisit;
-use hot_model::ForceEngine;
 use hot_units::{Acc3, Body, Mail};
 use rank_walk::{Sharing, walk_over_ranks};
 use std::alloc::{AllocError, Global};
@@ -122,25 +121,30 @@ impl<'a, R: Threads + Sync, M: Wire, G: Gate> RankEngine<'a, R, M, G> {
         let found = walk_over_ranks(self.rt, alloc, &set, sharing, visit, wire, self.gate)?;
         placed_parts(alloc, &set, &found.accs)
     }
-}
 
-impl<'a, R: Threads + Sync, M: Wire, G: Gate> ForceEngine for RankEngine<'a, R, M, G> {
-    type Link = M;
-
-    ghost settings = { λ e. e.settings };
-
-    ghost is_ready = { λ _ m. (M.desk m).pending ≡ [] };
-
-    ghost answers = { λ e m bodies f n. AnswerLeaves M.desk e m bodies f n };
-
-    ghost refuses = { λ e m bodies f n. RefusalLeaves M.desk e m bodies f n };
-
-    fn forces(
+    /// The force on each body of the slice, in its order, by one walk over the ranks; each has seen
+    /// the mass of all bodies. There are at most 1,048,576 bodies, with at most 2^40 of mass
+    /// together; their rows do not matter, since each place is the row. Where there are not as many
+    /// weights as bodies, each counts as 1. The next call splits by the number of terms that this
+    /// one added for each body.
+    ///
+    /// A refusal is want of memory: the engine stays as it was, and the wire is as it was, or has a
+    /// legal log so far, and letters may be pending.
+    pub fn forces(
         &mut self,
         alloc: Global,
         link: &mut M,
         bodies: &[Body],
-    ) -> Result<Vec<Acc3>, AllocError> {
+    ) -> Result<Vec<Acc3>, AllocError>
+        requires link_ready { (M.desk link.old).pending ≡ [] }
+        requires few { length bodies.now ≤ max_bodies }
+        requires light { mass_of bodies.now ≤ max_all_mass }
+        ensures settings_kept { self.new.settings ≡ self.old.settings }
+        ensures forces { IfOk result (λ v. AreForces self.old.settings bodies.now v.items) }
+        ensures link_left { MatchResult result
+            (λ _. AnswerLeaves M.desk self.old link.old bodies.now self.new link.new)
+            (λ _. RefusalLeaves M.desk self.old link.old bodies.now self.new link.new) }
+    {
         let answered = self.walk(alloc, bodies, link)?;
         self.weights = answered.terms;
         Ok(answered.forces)

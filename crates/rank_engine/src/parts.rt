@@ -39,11 +39,7 @@ fn terms_of(alloc: Global, accs: &[TermAcc]) -> Result<Vec<u32>, AllocError>
 }
 
 /// What was found for bodies in key order, each part at the place that is the row of its body.
-pub fn placed_parts(
-    alloc: Global,
-    set: &Ordered,
-    accs: &[TermAcc],
-) -> Result<Answered, AllocError>
+pub fn placed_parts(alloc: Global, set: &Ordered, accs: &[TermAcc]) -> Result<Answered, AllocError>
     requires paired { length set.now.bodies ≡ length accs.now }
     requires few { All (λ a. a.terms < 2 ^ 32) accs.now }
     ensures forces { IfOk result (λ r.

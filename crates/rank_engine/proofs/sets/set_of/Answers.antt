@@ -12,5 +12,7 @@ pub in_key_order-requires : goal.in_key_order-requires
 in_key_order-requires c =
     let is : c.in_ok-placed.placed.items ≡ numbered c.args.bodies.now = c.in_ok-placed.ensures.value in
     let sound : All IsBody (numbered c.args.bodies.now) = subst (λ (l : List BodyValue). All IsBody l) is c.in_ok-placed.ensures.sound in
-    record { set = subst (λ (l : List BodyValue). IsSet l c.in_ok-no_idents.no_idents.items c.in_ok-split_by.split_by.items) (sym is)
-      (numbered-set c.args.bodies.now c.in_ok-no_idents.no_idents.items c.in_ok-split_by.split_by.items c.args.weights.now sound c.requires.few c.requires.light (search rules) (search rules)) }
+    record {
+      set = subst (λ (l : List BodyValue). IsSet l c.in_ok-no_idents.no_idents.items c.in_ok-split_by.split_by.items) (sym is)
+          (numbered-set c.args.bodies.now c.in_ok-no_idents.no_idents.items c.in_ok-split_by.split_by.items c.args.weights.now sound c.requires.few c.requires.light (search rules) (search rules));
+    }
