@@ -43,7 +43,7 @@ const UNKNOWN_COMMAND: [Refused; 3] = [
     ("Forces f", 0, "A2 unknown command Forces"),
 ];
 
-const UNKNOWN_OPTION: [Refused; 17] = [
+const UNKNOWN_OPTION: [Refused; 20] = [
     ("split --theta 1/1", 1, "A3 unknown option --theta"),
     ("split --report", 1, "A3 unknown option --report"),
     ("forces --seed 1", 1, "A3 unknown option --seed"),
@@ -69,6 +69,13 @@ const UNKNOWN_OPTION: [Refused; 17] = [
     ),
     ("near --report", 1, "A3 unknown option --report"),
     ("forces --radius 1", 1, "A3 unknown option --radius"),
+    (
+        "energy --eps 1 --moments 1",
+        3,
+        "A3 unknown option --moments",
+    ),
+    ("energy --radius 1", 1, "A3 unknown option --radius"),
+    ("energy --report", 1, "A3 unknown option --report"),
 ];
 
 const NO_VALUE: [Refused; 4] = [
@@ -292,11 +299,15 @@ fn command_line(alloc: Global, command: &Command) -> Result<String, AllocError> 
             let job = job_line(alloc, job)?;
             format!(in alloc; "near {radius} {job}")
         }
+        Command::Energy(job) => {
+            let job = job_line(alloc, job)?;
+            format!(in alloc; "energy {job}")
+        }
     }
 }
 
 /// Words that are accepted, and their command in a line.
-const ACCEPTED: [(&str, &str); 48] = [
+const ACCEPTED: [(&str, &str); 51] = [
     ("forces", "forces 1 7/10 256 8 1 prompt false false 0 0"),
     ("forces f", "forces 1 7/10 256 8 1 prompt false false 1 1"),
     ("forces -", "forces 1 7/10 256 8 1 prompt false false 1 1"),
@@ -446,6 +457,15 @@ const ACCEPTED: [(&str, &str); 48] = [
     (
         "near --radius 7 a b c d e f g h i j k l m n o -",
         "near 7 1 7/10 256 8 1 prompt false false 3 16",
+    ),
+    ("energy", "energy 1 7/10 256 8 1 prompt false false 0 0"),
+    (
+        "energy --eps 1 --theta 3/2 --ranks 2 a",
+        "energy 2 3/2 1 8 1 prompt false false 7 1",
+    ),
+    (
+        "energy --mail 5 --leaf 64 a - b",
+        "energy 1 7/10 256 64 1 5 false false 5 3",
     ),
 ];
 

@@ -6,7 +6,7 @@ use Rattle.fixed_kernel.specs.Ratio.{RatioValue}
 use Rattle.near_walk.specs.Limits.{max_radius}
 use Rattle.hot_words.specs.Names.{AreNames}
 use Rattle.hot_words.specs.declared.job.Command.{Command}
-use Rattle.hot_words.specs.declared.job.Command.TheVariants.{Forces, Split, Make, Sample, Near}
+use Rattle.hot_words.specs.declared.job.Command.TheVariants.{Forces, Split, Make, Sample, Near, Energy}
 use Rattle.hot_words.specs.declared.job.Job.{Job}
 
 -- the numbers and choices of a run, the place of the first word that names a file, and how many do
@@ -23,13 +23,14 @@ pub record JobValue : Type 0 where
   pub files : ℕ
 
 -- what the program is to do: forces of the bodies of files; their split by ranks; a number of bodies by a seed; a run on
--- such bodies; the neighbours, within a radius, of the bodies of files
+-- such bodies; the neighbours, within a radius, of the bodies of files; the energy of such bodies
 pub data CommandValue : Type 0 where
   forces : JobValue → CommandValue
   split : (ranks first files : ℕ) → CommandValue
   make : ℕ → ℕ → CommandValue
   sample : ℕ → ℕ → JobValue → CommandValue
   near : (radius : ℕ) → JobValue → CommandValue
+  energy : JobValue → CommandValue
 
 -- what is seen of a run
 abbrev pub job_value : Job → JobValue
@@ -42,6 +43,7 @@ command_value (Split ranks first files) = split ranks first files
 command_value (Make bodies seed) = make bodies seed
 command_value (Sample bodies seed job) = sample bodies seed (job_value job)
 command_value (Near radius job) = near radius (job_value job)
+command_value (Energy job) = energy (job_value job)
 
 -- the numbers of a command are within their limits
 abbrev pub IsWithinLimits : Command → Type 0
@@ -50,6 +52,7 @@ IsWithinLimits (Split ranks first files) = (1 ≤ ranks) × (ranks ≤ max_ranks
 IsWithinLimits (Make bodies seed) = bodies ≤ max_generated
 IsWithinLimits (Sample bodies seed job) = bodies ≤ max_generated
 IsWithinLimits (Near radius job) = radius ≤ max_radius
+IsWithinLimits (Energy job) = Unit {0}
 
 -- the files of a command are named by these words
 abbrev pub IsNamed : List (List ℕ) → Command → Type 0
@@ -58,3 +61,4 @@ IsNamed words (Split ranks first files) = AreNames words first files
 IsNamed words (Make bodies seed) = Unit {0}
 IsNamed words (Sample bodies seed job) = AreNames words job.first job.files
 IsNamed words (Near radius job) = AreNames words job.first job.files
+IsNamed words (Energy job) = AreNames words job.first job.files

@@ -3,7 +3,7 @@ use Rattle.std.specs.Prelude.{ℕ, Bool, true, false, not, ◌&&◌, List, [], �
 use Rattle.std.specs.List.{list_any}
 use Rattle.std.specs.Str.{bytes_eq}
 use Rattle.hot_words.specs.declared.table.CommandName.{CommandName}
-use Rattle.hot_words.specs.declared.table.CommandName.TheVariants.{Forces, Split, Make, Sample, Near}
+use Rattle.hot_words.specs.declared.table.CommandName.TheVariants.{Forces, Split, Make, Sample, Near, Energy}
 use Rattle.hot_words.specs.Numbers.{number_of, ranks_of, leaf_of, moments_of, bodies_of, softening_of, radius_of, ratio_of, mail_of, form_of}
 
 -- the command of a word
@@ -13,7 +13,8 @@ command_named word =
     else (if bytes_eq word (codes "split") then Some Split
     else (if bytes_eq word (codes "make") then Some Make
     else (if bytes_eq word (codes "sample") then Some Sample
-    else (if bytes_eq word (codes "near") then Some Near else None))))
+    else (if bytes_eq word (codes "near") then Some Near
+    else (if bytes_eq word (codes "energy") then Some Energy else None)))))
 
 -- the options of generated bodies
 abbrev pub body_options : List (List ℕ)
@@ -27,6 +28,10 @@ run_options = codes "--ranks" ∷ codes "--theta" ∷ codes "--eps" ∷ codes "-
 abbrev pub near_options : List (List ℕ)
 near_options = codes "--ranks" ∷ codes "--leaf" ∷ codes "--mail" ∷ codes "--radius" ∷ []
 
+-- the options of an energy: those of a run of first order
+abbrev pub energy_options : List (List ℕ)
+energy_options = codes "--ranks" ∷ codes "--theta" ∷ codes "--eps" ∷ codes "--leaf" ∷ codes "--mail" ∷ []
+
 -- the options of each command
 abbrev pub options_of : CommandName → List (List ℕ)
 options_of Forces = run_options ++ codes "--form" ∷ codes "--report" ∷ []
@@ -34,6 +39,7 @@ options_of Split = codes "--ranks" ∷ []
 options_of Make = body_options
 options_of Sample = body_options ++ run_options
 options_of Near = near_options
+options_of Energy = energy_options
 
 -- whether a word is an option of a command
 abbrev pub has_option : CommandName → List ℕ → Bool
@@ -50,6 +56,7 @@ has_file Split = true
 has_file Make = false
 has_file Sample = false
 has_file Near = true
+has_file Energy = true
 
 -- whether a word is a good value of an option
 abbrev pub is_good : List ℕ → List ℕ → Bool

@@ -1,13 +1,13 @@
 -- The command that words give, or their refusal.
 use Rattle.std.specs.Prelude.{ℕ, Bool, false, List, [], ◌∷◌, Option, Some, None, Result, Ok, Err}
 use Rattle.hot_words.specs.declared.table.CommandName.{CommandName}
-use Rattle.hot_words.specs.declared.table.CommandName.TheVariants.{Forces, Split, Make, Sample, Near}
+use Rattle.hot_words.specs.declared.table.CommandName.TheVariants.{Forces, Split, Make, Sample, Near, Energy}
 use Rattle.hot_words.specs.declared.faults.WordFault.{WordFault}
 use Rattle.hot_words.specs.declared.faults.WordCode.TheVariants.{A1, A2}
 use Rattle.hot_words.specs.Options.{command_named}
 use Rattle.hot_words.specs.Faults.{fault_first}
 use Rattle.hot_words.specs.Settings.{ranks_given, ratio_given, softening_given, leaf_given, moments_given, mail_given, sdf_given, report_given, bodies_given, seed_given, radius_given, files_given, default_ratio, default_softening, default_moments}
-use Rattle.hot_words.specs.Commands.{JobValue, CommandValue, forces, split, make, sample, near}
+use Rattle.hot_words.specs.Commands.{JobValue, CommandValue, forces, split, make, sample, near, energy}
 
 -- a run by its options, with the form of its output, a report, and the place and number of its files
 abbrev pub job_of : CommandName → List (List ℕ) → Bool → Bool → ℕ → ℕ → JobValue
@@ -39,6 +39,21 @@ near_job_of words first files = record {
   files = files;
 }
 
+-- a run for the energy: it is of first order, no SDF and has no report
+abbrev pub energy_job_of : List (List ℕ) → ℕ → ℕ → JobValue
+energy_job_of words first files = record {
+  ranks = ranks_given Energy words;
+  ratio = ratio_given Energy words;
+  eps = softening_given Energy words;
+  leaf = leaf_given Energy words;
+  moments = default_moments;
+  mail = mail_given Energy words;
+  sdf = false;
+  report = false;
+  first = first;
+  files = files;
+}
+
 -- the command that words without a fault give
 abbrev pub command_by : CommandName → List (List ℕ) → CommandValue
 command_by Forces words =
@@ -50,6 +65,7 @@ command_by Sample words = sample (bodies_given Sample words) (seed_given Sample 
 command_by Near words =
     let files = files_given Near words in
     near (radius_given Near words) (near_job_of words files.0 files.1)
+command_by Energy words = let files = files_given Energy words in energy (energy_job_of words files.0 files.1)
 
 -- the first fault, or else the command
 abbrev pub unless_fault : Option WordFault → CommandValue → Result CommandValue WordFault

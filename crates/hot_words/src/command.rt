@@ -1,7 +1,7 @@
 // The command that words without a fault give.
 ghost use Rattle.std.specs.Prelude.{◌≡◌, ◌≤◌, None};
 ghost use Rattle.hot_words.specs.Commands.{job_value, command_value, IsWithinLimits, IsNamed};
-ghost use Rattle.hot_words.specs.Words.{job_of, near_job_of, command_by};
+ghost use Rattle.hot_words.specs.Words.{job_of, near_job_of, energy_job_of, command_by};
 ghost use Rattle.hot_words.specs.Faults.{fault_first};
 ghost use Rattle.hot_words.specs.Settings.{ratio_given, moments_given};
 
@@ -61,6 +61,26 @@ fn make_near_job(words: &WordList, first: usize, files: usize) -> Job
     }
 }
 
+/// A run for the energy, with the place and number of its files. It is of first order, no SDF and
+/// has no report.
+fn make_energy_job(words: &WordList, first: usize, files: usize) -> Job
+    ensures { job_value result ≡ energy_job_of words.now first files }
+{
+    let name = CommandName::Energy;
+    Job {
+        ranks: ranks(name, words),
+        ratio: ratio(name, words),
+        eps: softening(name, words),
+        leaf: leaf(name, words),
+        moments: DEFAULT_MOMENTS,
+        mail: mail(name, words),
+        sdf: false,
+        report: false,
+        first,
+        files,
+    }
+}
+
 /// The command of this name, by its options and its files.
 pub fn make_command(name: CommandName, words: &WordList) -> Command
     requires faultless { fault_first name words.now ≡ None }
@@ -97,6 +117,10 @@ pub fn make_command(name: CommandName, words: &WordList) -> Command
                 radius: radius(name, words),
                 job: make_near_job(words, first, files),
             }
+        }
+        CommandName::Energy => {
+            let (first, files) = files(name, words);
+            Command::Energy(make_energy_job(words, first, files))
         }
     }
 }

@@ -31,8 +31,9 @@ pub struct Job {
 /// What the program is to do: print the forces on the bodies of files; print how the bodies of files
 /// are split by ranks, 1 to 64; write a file of so many generated bodies, at most 262,144; run on
 /// such bodies; or print the neighbours of the bodies of files, those within a radius in fine units,
-/// at most 1,073,741,824, where the run has the default ratio, softening and order of the moments.
-/// Files are named by the place of the first word that names one, and their number, both 0 where no
+/// at most 1,073,741,824, where the run has the default ratio, softening and order of the moments;
+/// or print how deep the bodies of files lie in the field of the others, and their energy, by a run
+/// of first order. Files are named by the place of the first word that names one, and their number, both 0 where no
 /// word does.
 #[derive(Drop)]
 pub enum Command {
@@ -55,4 +56,5 @@ pub enum Command {
         radius: u32,
         job: Job,
     },
+    Energy(Job),
 }

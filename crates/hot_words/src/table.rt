@@ -3,6 +3,7 @@ ghost use Rattle.std.specs.Prelude.{◌≡◌};
 ghost use Rattle.std.specs.List.{list_any};
 ghost use Rattle.std.specs.Str.{bytes_eq};
 ghost use Rattle.hot_words.specs.Options.{command_named, run_options, body_options, near_options};
+ghost use Rattle.hot_words.specs.Options.{energy_options};
 ghost use Rattle.hot_words.specs.Options.{has_option, takes_value, has_file, is_good};
 
 use crate::numbers::{
@@ -18,6 +19,7 @@ pub enum CommandName {
     Make,
     Sample,
     Near,
+    Energy,
 }
 
 /// The command of a word; None exactly where it names none.
@@ -30,6 +32,7 @@ pub fn name_of(word: &str) -> Option<CommandName>
         "make" => Some(CommandName::Make),
         "sample" => Some(CommandName::Sample),
         "near" => Some(CommandName::Near),
+        "energy" => Some(CommandName::Energy),
         _ => None,
     }
 }
@@ -44,6 +47,7 @@ pub fn is_option(name: CommandName, word: &str) -> bool
         CommandName::Make => is_body_option(word),
         CommandName::Sample => is_body_option(word) || is_run_option(word),
         CommandName::Near => is_near_option(word),
+        CommandName::Energy => is_energy_option(word),
     }
 }
 
@@ -73,6 +77,17 @@ fn is_near_option(word: &str) -> bool
     word == "--ranks" || word == "--leaf" || word == "--mail" || word == "--radius"
 }
 
+/// Whether the word is an option of an energy.
+fn is_energy_option(word: &str) -> bool
+    ensures { result ≡ list_any (bytes_eq word.now) energy_options }
+{
+    word == "--ranks"
+        || word == "--theta"
+        || word == "--eps"
+        || word == "--leaf"
+        || word == "--mail"
+}
+
 /// Whether the word is an option of the command that takes a value: all do but `--report`.
 pub fn wants_value(name: CommandName, word: &str) -> bool
     ensures { result ≡ takes_value name word.now }
@@ -85,7 +100,7 @@ pub fn wants_file(name: CommandName) -> bool
     ensures { result ≡ has_file name }
 {
     match name {
-        CommandName::Forces | CommandName::Split | CommandName::Near => true,
+        CommandName::Forces | CommandName::Split | CommandName::Near | CommandName::Energy => true,
         CommandName::Make | CommandName::Sample => false,
     }
 }
